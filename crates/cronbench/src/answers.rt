@@ -1,12 +1,12 @@
 //! The sum of answers.
 
-/// By what the sum is multiplied before an answer is added to it.
+/// The factor by which the sum is multiplied before an answer is added.
 const FACTOR: u64 = 1_000_003;
 
 /// How many answers there were, and their sum.
 ///
 /// Each answer is a number. The sum is 0 at first, and each answer in turn makes it `sum * 1000003 + answer`, modulo 2^64;
-/// a negative answer is added as its two's complement. So the sum depends on each answer and on their order.
+/// a negative answer is added in two's complement. So the sum depends on each answer and on their order.
 #[derive(Clone, Copy, Default, PartialEq, Eq)]
 pub struct Answers {
     pub count: u32,

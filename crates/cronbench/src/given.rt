@@ -1,12 +1,12 @@
-//! What the program is given: its word, and the patterns.
+//! The program's input: its word, and the patterns.
 
 use std::alloc::Global;
 use std::{env, io};
 
-/// How many rounds, where the words do not say it.
+/// How many rounds, if the words don't say.
 const ROUNDS: u32 = 1;
 
-/// The words behind the program's own name. One that is not UTF-8 is an error of the kind `InvalidData`.
+/// The words after the program's own name. One that is not UTF-8 is an error of the kind `InvalidData`.
 pub fn words(rt: &HostRuntime) -> io::Result<Vec<String>> {
     let mut words = Vec::new(rt.alloc());
     for word in env::args(rt)?.skip(1) {
@@ -18,13 +18,13 @@ pub fn words(rt: &HostRuntime) -> io::Result<Vec<String>> {
 /// What the words ask for.
 #[derive(Clone, Copy)]
 pub enum Asked {
-    /// That each group is measured so often.
+    /// Measure each group this often.
     Rounds(u32),
-    /// The answers of cases of calls that ask for memory.
+    /// Answer cases of calls that ask for memory.
     Memory,
 }
 
-/// What the program's one word asks for: a number of rounds above 0, or `memory`. None where the words are not of that form.
+/// What the program's word asks for: a number of rounds above 0, or `memory`. `None` where the words don't have that form.
 pub fn asked_by(words: &[String]) -> Option<Asked> {
     match words {
         [] => Some(Asked::Rounds(ROUNDS)),

@@ -2,7 +2,7 @@
 
 use std::alloc::{AllocError, Global};
 
-/// What a text begins with, the piece that stands in it again and again, and its end.
+/// The beginning of a text, the piece that is repeated, and the end.
 struct Kind(&'static str, &'static str, &'static str);
 
 const KINDS: [Kind; 10] = [
@@ -18,7 +18,7 @@ const KINDS: [Kind; 10] = [
     Kind("* * * * * * ", "1-5000,", ""),
 ];
 
-// The text of a kind whose pieces have so many bytes together, or a few less.
+// The text of a kind whose pieces have so many bytes in total, or a few less.
 fn text(alloc: Global, kind: &Kind, bytes: usize) -> Result<String, AllocError> {
     let Kind(front, piece, end) = *kind;
     let count = bytes.checked_div(piece.len()).unwrap_or(0);
@@ -30,7 +30,7 @@ fn text(alloc: Global, kind: &Kind, bytes: usize) -> Result<String, AllocError> 
     Ok(text)
 }
 
-/// A text of each kind, of so many bytes or a few less, beside its begin and its end.
+/// A text of each kind, whose pieces have so many bytes in total, or a few less.
 pub fn texts(alloc: Global, bytes: usize) -> Result<Vec<String>, AllocError> {
     let mut texts = Vec::new(alloc);
     for kind in &KINDS {

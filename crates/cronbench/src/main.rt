@@ -1,10 +1,10 @@
 //! `cronbench`: how long the library's calls take, on the patterns of standard input.
 //!
-//! Its word is the number of rounds, one where there is none. Each group of calls is measured so often. Standard output
-//! has the answers' sum of each group, the same in every run; standard error has the nanoseconds of processor time of one
-//! call, in the fastest round. Where no pattern stands on standard input, standard error says so, and nothing is measured.
+//! Its word is the number of rounds; without one it is one. Each group of calls is measured that often. Standard output
+//! has the sum of each group's answers, the same in every run. Standard error has the nanoseconds of processor time of one
+//! call, in the fastest round. If standard input has no pattern, standard error says so, and nothing is measured.
 //!
-//! With the word `memory` each line of standard input is a case of calls that ask for memory, and is answered.
+//! With the word `memory` it answers each line of standard input, which is a case of calls that ask for memory.
 #![tactic(auto)]
 
 mod answers;
@@ -32,7 +32,7 @@ use std::io::ErrorKind;
 use std::process::ExitCode;
 use subjects::Subjects;
 
-/// The status where the words are not of their form.
+/// The status if the words don't have their form.
 const MISUSED: u8 = 2;
 
 const NO_PATTERN: &str = "No pattern stands on standard input: nothing is measured.";
@@ -51,7 +51,7 @@ fn show(rt: &HostRuntime, group: &str, measured: Measured) -> io::Result<()> {
     }
 }
 
-// Measures each group, and shows what it answered and took, where there is a pattern.
+// Measures each group, and shows its answers and its time, if there is a pattern.
 fn bench(rt: &HostRuntime, rounds: u32) -> Result<bool> {
     let patterns = given::patterns(rt)?;
     if patterns.is_empty() {
@@ -76,7 +76,7 @@ fn bench_on(rt: &HostRuntime, subjects: &Subjects<'_>, rounds: u32) -> Result<bo
     Ok(true)
 }
 
-// What the words ask for. None where they are not of their form.
+// What the words ask for. `None` where they don't have their form.
 fn read_words(rt: &HostRuntime) -> io::Result<Option<Asked>> {
     match given::words(rt) {
         Ok(words) => Ok(given::asked_by(words.as_slice())),

@@ -9,26 +9,26 @@ use croner_rows::{Job, Moment};
 use jiff::civil::DateTime;
 use std::alloc::Global;
 
-/// How often the table has each pattern, so that forty are a thousand.
+/// How often the table has each pattern, so that forty patterns make a thousand jobs.
 pub const TIMES: u32 = 25;
 
-/// How often the larger table has each pattern, so that forty are a hundred thousand.
+/// How often the larger table has each pattern, so that forty patterns make a hundred thousand jobs.
 pub const LARGER_TIMES: u32 = 2_500;
 
-/// How many items a table's iterator is asked for: of a short list, and of a long one, in which the first two count little.
+/// How many items a table's iterator is asked for: in a short list, and in a long one, in which the first two count little.
 pub const ITEMS: u32 = 64;
 
 pub const LONG_ITEMS: u32 = 10_000;
 
-/// How many items at the head of a list search all jobs: those behind them search the jobs that ran.
+/// How many items at the beginning of a list search all jobs; later ones search only the jobs that ran.
 const SEARCHING_ITEMS: u32 = 2;
 
-/// How many jobs the table has of which one runs at a time: each runs once a day, some seconds after the one before it.
+/// How many jobs the table has whose jobs run one at a time: each runs once a day, some seconds after the one before it.
 const DAILY_JOBS: u32 = 1_000;
 
 const SECONDS_APART: u32 = 86;
 
-/// The table of which one job runs at a time.
+/// The table whose jobs run one at a time.
 pub fn daily_table(alloc: Global) -> Result<CronTable, CronError> {
     let mut table = CronTable::new(alloc);
     for job in 0..DAILY_JOBS {
@@ -55,7 +55,7 @@ pub fn table_of(alloc: Global, patterns: &[String], times: u32) -> Result<CronTa
     Ok(table)
 }
 
-/// Seeks the next run of each job so often, the start left out. An answer is the least run of all.
+/// Searches the next run of each job after each start, several times. An answer is the least run of all.
 pub fn next_each(jobs: &[Job], starts: &[DateTime]) -> Result<Answers, CronError> {
     let mut answers = Answers::default();
     for start in starts {
@@ -76,7 +76,7 @@ fn least(jobs: &[Job], start: &DateTime) -> Result<i64, CronError> {
     Ok(least)
 }
 
-/// Seeks the next run of the table, the start left out. An answer is the run.
+/// Searches the next run of the table after each start. An answer is the run.
 pub fn next(table: &CronTable, starts: &[DateTime]) -> Result<Answers, CronError> {
     let mut answers = Answers::default();
     for start in starts {
@@ -86,7 +86,7 @@ pub fn next(table: &CronTable, starts: &[DateTime]) -> Result<Answers, CronError
     Ok(answers)
 }
 
-/// Goes over so many of the table's runs behind the first start. An answer is a run.
+/// Lists a number of the table's runs after the first start. An answer is a run.
 pub fn iterate(table: &CronTable, starts: &[DateTime], items: u32) -> Result<Answers, CronError> {
     let mut answers = Answers::default();
     if let Some(start) = starts.first() {
@@ -119,7 +119,7 @@ fn add_runs(answers: &mut Answers, runs: &mut CronTableIterator<'_, DateTime>, i
     }
 }
 
-/// Asks for the table's first run behind each start, by a new iterator. An answer is a run.
+/// Asks for the table's first run after each start, by a new iterator. An answer is a run.
 pub fn first(table: &CronTable, starts: &[DateTime]) -> Result<Answers, CronError> {
     let mut answers = Answers::default();
     for start in starts {

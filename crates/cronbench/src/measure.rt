@@ -21,7 +21,7 @@ impl Measured {
     }
 }
 
-/// Measures a group in so many passes, at least one: its answers, the same in each, and the least time.
+/// Measures a group in a number of passes, at least one: its answers, the same in each, and the least time.
 pub fn measure(
     rt: &HostRuntime,
     group: Group,

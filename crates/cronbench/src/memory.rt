@@ -4,9 +4,9 @@ use croner_rows::shown::json;
 use croner_rows::{Caller, Result};
 use cronmemory::make_calls;
 
-/// Answers each line of standard input, which is a case, as JSON: the operation `op` and what its calls are given. It gets ready,
-/// makes the calls between two marks on standard error, and prints two lines: what the calls answered, and afterwards what they
-/// were lent, or what an iterator gives that is asked again.
+/// Answers each line of standard input, which is a case, as JSON: the operation `op` and what its calls are given. It prepares,
+/// makes the calls between two marks on standard error, and prints two lines. The first is what the calls answered. The second
+/// is what they were lent, as it is afterwards, or what an iterator gives when asked again.
 pub fn answer_cases(rt: &HostRuntime) -> Result<bool> {
     for line in rt.lines(rt.alloc()) {
         let line = line?;

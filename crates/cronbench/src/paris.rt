@@ -37,9 +37,9 @@ pub struct Clocks {
     pub long_table: ClockTable,
     /// The rule, in every year.
     pub zone: TimeZone<'static>,
-    /// A clock that is put on by an hour at the first second.
+    /// A clock that goes forward by an hour at the first second.
     pub gap_of_an_hour: ClockTable,
-    /// A clock that is put on by a day there.
+    /// A clock that goes forward by a day then.
     pub gap_of_a_day: ClockTable,
     /// UTC.
     pub utc: ClockTable,
@@ -92,10 +92,10 @@ fn change_in(year: i16, month: i8) -> Result<i64, Error> {
     Ok(change.to_plain().to_second())
 }
 
-/// How many changes a table has before the first of 2020, and how many behind the last of 2059.
+/// How many changes the long table has before the first of 2020, and how many after the last of 2059.
 const BESIDE: u32 = 9_960;
 
-/// How many seconds lie from one of these to the next.
+/// How many seconds these are apart.
 const APART_SECONDS: i64 = 3_000_000;
 
 /// The offsets at them, in turn.
@@ -105,7 +105,7 @@ const OFFSETS_BESIDE: (i32, i32) = (WINTER_OFFSET + 1, WINTER_OFFSET);
 const SECONDS_BEFORE: i64 = 29_880_000_000;
 
 // The changes of the table among 20,000, the most that one may have in the years 1 to 5000. At the others, 3,000,000 seconds
-// apart, the clock is put forward by a second and back by turns.
+// apart, the clock goes forward and back by a second in turn.
 fn long_table(alloc: Global) -> Result<ClockTable> {
     let mut changes = Vec::new(alloc);
     let first = change_in(FIRST_YEAR, MARCH)?;

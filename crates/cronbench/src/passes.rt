@@ -1,4 +1,4 @@
-//! One pass of each kind of call: over all patterns, and where it has a start, from all starts.
+//! One pass of each kind of call: over all patterns, and, if it has a start, from all starts.
 
 use crate::answers::Answers;
 use croner::describe::Language;
@@ -21,7 +21,7 @@ pub fn parse(alloc: Global, patterns: &[String]) -> Result<Answers, CronError> {
     Ok(answers)
 }
 
-/// Asks whether a time matches. An answer is 1 where it does, else 0.
+/// Asks whether a time matches. An answer is 1 if it does, else 0.
 pub fn matching<T: Moment>(jobs: &[Job], starts: &[T]) -> Result<Answers, CronError> {
     let mut answers = Answers::default();
     for job in jobs {
@@ -32,7 +32,7 @@ pub fn matching<T: Moment>(jobs: &[Job], starts: &[T]) -> Result<Answers, CronEr
     Ok(answers)
 }
 
-/// Seeks the next run, the start left out. An answer is the run.
+/// Searches the next run after each start. An answer is the run.
 pub fn next<T: Moment>(jobs: &[Job], starts: &[T]) -> Result<Answers, CronError> {
     let mut answers = Answers::default();
     for job in jobs {
@@ -43,7 +43,7 @@ pub fn next<T: Moment>(jobs: &[Job], starts: &[T]) -> Result<Answers, CronError>
     Ok(answers)
 }
 
-/// Seeks the previous run, the start left out. An answer is the run.
+/// Searches the previous run before each start. An answer is the run.
 pub fn previous<T: Moment>(jobs: &[Job], starts: &[T]) -> Result<Answers, CronError> {
     let mut answers = Answers::default();
     for job in jobs {
@@ -54,7 +54,7 @@ pub fn previous<T: Moment>(jobs: &[Job], starts: &[T]) -> Result<Answers, CronEr
     Ok(answers)
 }
 
-/// Goes over the first runs from the first start on, itself included. An answer is a run.
+/// Lists the first runs from the first start on, itself included. An answer is a run.
 pub fn iterate<T: Moment>(jobs: &[Job], starts: &[T]) -> Result<Answers, CronError> {
     let mut answers = Answers::default();
     if let Some(start) = starts.first() {
@@ -98,7 +98,7 @@ pub fn describe<L: Language + Copy + Drop>(
     Ok(answers)
 }
 
-/// Compares each job with its clone. An answer is 1 where they are equal, else 0; the time of the clone is in it.
+/// Compares each job with its clone. An answer is 1 if they are equal, else 0; the time of the clone is included.
 pub fn compare(jobs: &[Job]) -> Result<Answers, CronError> {
     let mut answers = Answers::default();
     for job in jobs {
@@ -118,7 +118,7 @@ pub fn copy(jobs: &[Job]) -> Result<Answers, CronError> {
     Ok(answers)
 }
 
-/// Seeks the next run of a job. The answer is the run, or -1 where the search comes to the limit.
+/// Searches the next run of a job. The answer is the run, or -1 where the search reaches the limit.
 pub fn limit<T: Moment>(job: &Job, start: &T) -> Result<Answers, CronError> {
     let mut answers = Answers::default();
     match job.cron.find_next_occurrence(start, false) {
@@ -129,7 +129,7 @@ pub fn limit<T: Moment>(job: &Job, start: &T) -> Result<Answers, CronError> {
     Ok(answers)
 }
 
-/// Reads each text, which may be refused. An answer is how many bytes the kept text has, or a number below 0 for the refusal.
+/// Reads each text, which may be refused. An answer is the length of the kept text in bytes, or a negative number for the refusal.
 pub fn read_hostile(alloc: Global, texts: &[String]) -> Result<Answers, CronError> {
     let mut answers = Answers::default();
     for text in texts {

@@ -1,4 +1,4 @@
-//! Many jobs in a scheduler: what a wake-up takes, a job that comes, and one that goes.
+//! Many jobs in a scheduler: the time of a wake-up, of adding a job, and of removing one.
 
 use crate::answers::Answers;
 use crate::watch::Watch;
@@ -15,9 +15,9 @@ pub enum Call {
     WakeMany,
     /// A wake-up at which one job runs.
     WakeOne,
-    /// A job that comes.
+    /// Adding a job.
     Add,
-    /// A job that goes.
+    /// Removing a job.
     Remove,
 }
 
@@ -29,13 +29,13 @@ const WAKE_UPS: u32 = 25;
 /// How many seconds a week has.
 const WEEK: u32 = 604_800;
 
-/// How many minutes lie between the times of the day of two jobs that come.
+/// How many minutes apart the times of day of two added jobs are.
 const MINUTES_APART: u32 = 22;
 
 type Jobs<'t> = Scheduler<Cron, TableTime<'t>>;
 
-/// Makes the calls on so many jobs that were added at a start. An answer of a wake-up is the sum of the ids of what ran, each times its
-/// second, modulo 2^64; one of another call is the second of the next wake-up.
+/// Makes the calls on a number of jobs that were added at a start. The answer of a wake-up is the sum of the ids of the jobs that ran,
+/// each times its second, modulo 2^64. That of another call is the second of the next wake-up.
 pub fn pass(
     alloc: Global,
     call: Call,

@@ -1,11 +1,11 @@
-//! The times that searches start from.
+//! The times from which searches start.
 
 use jiff::civil::DateTime;
 use jiff::tz::Offset;
 use jiff::{Error, Timestamp};
 use std::alloc::{AllocError, Global};
 
-/// How many times there are to start from.
+/// How many times there are from which to start.
 const COUNT: u32 = 64;
 
 /// 2024-01-01T00:00:00, in seconds from 1970-01-01T00:00:00.
@@ -14,7 +14,7 @@ pub const FIRST_SECOND: i64 = 1_704_067_200;
 /// The last second before 2024-06-03T00:00:00, a Monday, in UTC.
 pub const BEFORE_MONDAY: i64 = 1_717_372_799;
 
-/// The times lie within so many seconds from the first one: ten years of 365 days.
+/// The times lie within this many seconds from the first one: ten years of 365 days.
 const SPAN_SECONDS: u64 = 315_360_000;
 
 /// The state before the first time.
@@ -34,7 +34,7 @@ fn second_of(state: u64) -> i64 {
     FIRST_SECOND + ((state >> 33) % SPAN_SECONDS) as i64
 }
 
-/// The seconds from 1970-01-01T00:00:00 that searches start from.
+/// The seconds from 1970-01-01T00:00:00 from which searches start.
 pub fn seconds(alloc: Global) -> Result<Vec<i64>, AllocError> {
     let mut seconds = Vec::new(alloc);
     let mut state = SEED;

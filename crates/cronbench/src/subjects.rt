@@ -1,4 +1,4 @@
-//! What is measured on: the jobs, and the times that searches start from.
+//! What the calls are measured on: the jobs, and the times from which searches start.
 
 use crate::hostile::texts;
 use crate::many::{LARGER_TIMES, TIMES, daily_table, table_of};
@@ -14,35 +14,35 @@ use jiff::tz::TimeZone;
 use jiff::{Timestamp, Zoned};
 use std::alloc::Global;
 
-/// A pattern whose date is in 15 of 400 years.
+/// A pattern whose date occurs in 15 of 400 years.
 const LEAP_MONDAY: &str = "0 0 29 2 +MON";
 
-/// A pattern of every second.
+/// A pattern for every second.
 const EACH_SECOND: &str = "* * * * * *";
 
-/// A pattern of every hour.
+/// A pattern for every hour.
 const HOURLY: &str = "0 * * * *";
 
-/// A pattern of twelve times an hour.
+/// A pattern for twelve times an hour.
 const OFTEN: &str = "*/5 * * * *";
 
-/// A pattern whose date is in no year.
+/// A pattern whose date never occurs.
 const NO_DATE: &str = "0 0 31 2 *";
 
-/// A pattern of every second year, from year 1 on, whose date is in no year.
+/// A pattern for every second year, from year 1 on, whose date never occurs.
 const NO_DATE_IN_ODD_YEARS: &str = "0 0 0 31 2 * */2";
 
 /// A pattern whose minutes name nothing.
 const NO_MINUTE: &str = ", * * * *";
 
-/// How many bytes a hostile text has: of the short ones, of those ten times as long, and of those a hundred times.
+/// How many bytes a hostile text has: a short one, one ten times as long, and one a hundred times as long.
 const SHORT_BYTES: usize = 10_000;
 
 const MIDDLE_BYTES: usize = 100_000;
 
 const LONG_BYTES: usize = 1_000_000;
 
-/// The jobs, and the times that searches start from.
+/// The jobs, and the times from which searches start.
 #[derive(Drop)]
 pub struct Subjects<'t> {
     /// The patterns as they are written.
@@ -51,11 +51,11 @@ pub struct Subjects<'t> {
     pub jobs: Vec<Job>,
     /// Tables of jobs.
     pub tables: Tables,
-    /// Jobs that are searched by themselves.
+    /// Jobs that are searched one at a time.
     pub single: Single,
     /// The jobs that never run.
     pub never: Never,
-    /// The times that searches start from.
+    /// The times from which searches start.
     pub times: Times<'t>,
     /// Texts that no crontab has.
     pub hostile: Hostile,
@@ -88,11 +88,11 @@ pub struct Tables {
     pub thousand: CronTable,
     /// A hundred thousand patterns.
     pub larger: CronTable,
-    /// Jobs of which one runs at a time.
+    /// Jobs that run one at a time.
     pub daily: CronTable,
 }
 
-// By hand, as those below, so that a function that lets the value go calls this one: its proof doesn't go through the parts at each
+// By hand, as those below, so that a function that drops the value calls this one: its proof doesn't go through the parts at each
 // exit.
 impl Drop for Tables {
     fn drop(self) {
@@ -117,7 +117,7 @@ impl Tables {
     }
 }
 
-/// Jobs that are searched by themselves.
+/// Jobs that are searched one at a time.
 pub struct Single {
     /// It runs in each second.
     pub each_second: Job,
@@ -157,9 +157,9 @@ impl Single {
 
 /// Three jobs that never run, and where their searches start.
 pub struct Never {
-    /// Its date is in no year.
+    /// Its date never occurs.
     pub no_date: Job,
-    /// Its date is in no year, and it names every second year.
+    /// Its date never occurs, and it names every second year.
     pub no_date_in_odd_years: Job,
     /// Its minutes name nothing.
     pub no_minute: Job,
@@ -224,7 +224,7 @@ impl Hostile {
     }
 }
 
-/// The times that searches start from, of each kind.
+/// The times from which searches start, of each kind.
 #[derive(Drop)]
 pub struct Times<'t> {
     /// The times in civil time.
@@ -235,7 +235,7 @@ pub struct Times<'t> {
     pub zoned: Vec<Zoned<'static>>,
     /// The times on a table of 20,000 changes.
     pub long_table: Vec<TableTime<'t>>,
-    /// Times on that table far from each other.
+    /// Times on that table that are far apart.
     pub far_on_long_table: Vec<TableTime<'t>>,
     /// The last second before a gap of an hour.
     pub before_an_hour: Vec<TableTime<'t>>,

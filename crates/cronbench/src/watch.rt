@@ -4,7 +4,7 @@ use std::io;
 use std::rt::CpuClock;
 use std::time::Duration;
 
-/// A watch that runs, or was stopped.
+/// A watch that is running, or was stopped.
 #[derive(Drop)]
 pub struct Watch<'r> {
     rt: &'r HostRuntime,
@@ -28,12 +28,13 @@ impl<'r> Watch<'r> {
         self.begin = self.rt.thread_cpu_time();
     }
 
-    /// Stops: what comes later is not measured.
+    /// Stops: later time isn't measured.
     pub fn stop(&mut self) {
         self.end = Some(self.rt.thread_cpu_time());
     }
 
-    /// The processor time since it began, up to its stop, or up to now where it wasn't stopped; the error of either reading of the clock.
+    /// The processor time since it began, up to its stop, or up to now if it wasn't stopped. The error is that of either reading of the
+    /// clock.
     pub fn time(self) -> io::Result<Duration> {
         let Watch { rt, begin, end } = self;
         let begin = begin?;

@@ -1,11 +1,11 @@
 //! The files of the machine, and its standard input.
 
-use croncheck_command::escaped::shown;
-use croncheck_command::files::Sources;
-use croncheck_command::fitness::{Facts, Keeper, Unfit, unfit_of};
-use croncheck_command::names::{Asked, STANDARD_INPUT};
-use croncheck_command::root::{Kept, Root, kept_in};
-use croncheck_command::users::Users;
+use croncheck_files::fitness::{Facts, Keeper, Unfit, unfit_of};
+use croncheck_files::names::{Asked, STANDARD_INPUT};
+use croncheck_files::root::{Kept, Root, kept_in};
+use croncheck_output::escaped::shown;
+use croncheck_reading::files::Sources;
+use croncheck_warnings::users::Users;
 use crontab::line::Dialect;
 use either::{Either, Left, Right};
 use std::alloc::AllocError;

@@ -2,50 +2,51 @@
 #![tactic(auto)]
 
 mod machine;
+mod planning;
+mod saved;
 
-use croncheck_command::annotator::{Annotator, Style};
-use croncheck_command::changes::Changes;
-use croncheck_command::checker::Checker;
-use croncheck_command::clock::{Clock, NoClock};
-use croncheck_command::escaped::shown;
-use croncheck_command::files::tell_files;
-use croncheck_command::form::Form;
-use croncheck_command::json_checker::JsonChecker;
-use croncheck_command::json_reporter::JsonReporter;
-use croncheck_command::look::Look;
-use croncheck_command::moment::{Moment, last_up_to, second_of, start_from};
-use croncheck_command::names::Asked;
-use croncheck_command::output::Output;
-use croncheck_command::past::PastClock;
-use croncheck_command::patterns::{Answer, tell_patterns};
-use croncheck_command::planner::{FileAsked, PlanAsked, Planner};
-use croncheck_command::previous::Previous;
+use croncheck_changes::changes::Changes;
 use croncheck_command::problem::Problem;
-use croncheck_command::progress::{Terms, TermsByKind};
-use croncheck_command::reporter::Reporter;
-use croncheck_command::root::{Root, root_at};
-use croncheck_command::runs::Listing;
-use croncheck_command::sarif::Sarif;
-use croncheck_command::sarif::rules::RULES;
-use croncheck_command::settings::{Settings, SettingsByKind};
-use croncheck_command::shown::Shared;
-use croncheck_command::sink::Sink;
-use croncheck_command::users::Users;
 use croncheck_command::words::{
     Call, Color, Format, LEAST_WIDTH, MOST_WIDTH, NoCall, Span, USAGE, Verb, read_call, version,
 };
-use croncheck_command::zone::{note_of, refusal_of};
-use croner_base::time::CivilDateTime;
-use cronplan_forms::{Naming, Signs};
-use cronplan_page::{About, Line};
+use croncheck_files::names::Asked;
+use croncheck_files::root::{Root, root_at};
+use croncheck_forms::annotator::{Annotator, Style};
+use croncheck_forms::json_checker::JsonChecker;
+use croncheck_forms::json_reporter::JsonReporter;
+use croncheck_forms::patterns::{Answer, tell_patterns};
+use croncheck_forms::sarif::Sarif;
+use croncheck_forms::sarif::rules::RULES;
+use croncheck_moments::moment::{
+    Moment, date_at, last_of_month, last_of_week, last_up_to, second_of, start_from,
+};
+use croncheck_moments::zone::{note_of, refusal_of};
+use croncheck_output::escaped::shown;
+use croncheck_output::look::Look;
+use croncheck_output::output::Output;
+use croncheck_reading::files::tell_files;
+use croncheck_reading::form::Form;
+use croncheck_reading::progress::{Terms, TermsByKind};
+use croncheck_reading::sink::Sink;
+use croncheck_report::settings::{Settings, SettingsByKind};
+use croncheck_report::shared::Shared;
+use croncheck_runs::clock::{Clock, NoClock};
+use croncheck_runs::past::PastClock;
+use croncheck_runs::previous::Previous;
+use croncheck_runs::runs::Listing;
+use croncheck_shown::checker::Checker;
+use croncheck_shown::reporter::Reporter;
+use croncheck_warnings::users::Users;
 use crontab::line::Dialect;
 use jiff::Timestamp;
 use jiff::tz::{SystemTimeZone, TimeZone, TimeZoneDatabase, Tzif};
 use machine::{Machine, announce, announce_missing};
+use planning::plan;
 use std::alloc::AllocError;
-use std::io::{BufWriter, ErrorKind, IsTerminal, Write};
+use std::io::{BufWriter, ErrorKind, IsTerminal};
 use std::process::ExitCode;
-use std::{env, fs, io, str};
+use std::{env, fs, io};
 
 const MISUSED: u8 = 2;
 
@@ -54,9 +55,6 @@ const THIS_MACHINE: &str = "/";
 
 /// What stands in front of the name of a zone in the path of its file.
 const ZONES: &str = "zoneinfo/";
-
-/// What the calendar of a plan is called, and its page.
-const TITLE: &str = "What cron starts";
 
 /// How wide lines are on a terminal of which nothing is said.
 const USUAL_WIDTH: usize = 80;
@@ -276,7 +274,8 @@ fn check_in<'z>(
     other_zone: Option<TimeZone<'z>>,
 ) -> Result<u8, Problem> {
     let now = Timestamp::now(rt).map_err(Problem::Now)?.as_second();
-    let Some(first) = second_of(call.from, &zone, now) else {
+    let from = from_of(call, &zone, now);
+    let Some(first) = second_of(from, &zone, now) else {
         return Err(Problem::SkippedFrom);
     };
     let listing = match call.span {
@@ -287,7 +286,7 @@ fn check_in<'z>(
             None => return Err(Problem::SkippedUntil),
         },
     };
-    let start = start_from(call.from, first);
+    let start = start_from(from, first);
     let clock = Clock::of(rt.alloc(), &zone, start).map_err(Problem::Clock)?;
     let Ok(changes) = Changes::of(rt.alloc(), &clock, start) else {
         return Err(Problem::OutOfMemory);
@@ -320,51 +319,39 @@ fn check_in<'z>(
     tell_of_machine(rt, call, &kinds, &root, &users)
 }
 
-// Up to where is listed where the words don't say it: so many runs, and where a plan is asked something, seven days of the zone's clock,
-// today's rest among them.
+// Where runs are listed from: at the begin of the month where the grid of one is asked for and no word says it.
+fn from_of(call: &Call<'_>, zone: &TimeZone<'_>, now: i64) -> Moment {
+    if !call.plan.questions.month || !is_now(call.from) || is_until(call.span) {
+        return call.from;
+    }
+    match date_at(zone, now) {
+        Some(date) => Moment::Date(date.first_of_month()),
+        None => call.from,
+    }
+}
+
+fn is_until(span: Span) -> bool {
+    match span {
+        Span::Until(_) => true,
+        Span::Count(_) => false,
+    }
+}
+
+// Up to where is listed where the words don't say it: so many runs, and where a plan is asked something, to the end of the month for the grid of
+// one, and else seven days of the zone's clock, today's rest among them.
 fn listing_of(call: &Call<'_>, count: u32, zone: &TimeZone<'_>, first: i64) -> Listing {
     if call.plan.questions.is_none() && call.plan.file.is_none() {
         return Listing::Count(count);
     }
-    match end_of_week(zone, first) {
+    let last = if call.plan.questions.month {
+        last_of_month(zone, first)
+    } else {
+        last_of_week(zone, first)
+    };
+    match last {
         Some(last) => Listing::Until(last),
         None => Listing::Count(count),
     }
-}
-
-// The last second of the sixth date behind that of a second.
-fn end_of_week(zone: &TimeZone<'_>, first: i64) -> Option<i64> {
-    let mut date = zone.to_datetime(Timestamp::from_second(first).ok()?).date();
-    for _ in 0..6 {
-        date = date.tomorrow().ok()?;
-    }
-    last_up_to(Moment::Date(date), zone, first)
-}
-
-// What is asked of a plan: its picture has blocks where the machine's words are UTF-8.
-fn plan_asked(rt: &HostRuntime, call: &Call<'_>) -> PlanAsked {
-    let mut asked = call.plan;
-    if asked.questions.week.is_some() && has_utf8(rt) {
-        asked.questions.week = Some(Signs::Blocks);
-    }
-    asked
-}
-
-// Whether the machine's words are UTF-8, as the first of these variables says that isn't empty.
-fn has_utf8(rt: &HostRuntime) -> bool {
-    for name in ["LC_ALL", "LC_CTYPE", "LANG"] {
-        if let Ok(word) = env::var(rt, name) {
-            if !word.is_empty() {
-                return names_utf8(word.as_str());
-            }
-        }
-    }
-    false
-}
-
-fn names_utf8(locale: &str) -> bool {
-    let code = locale.rsplit('.').next().unwrap_or(locale);
-    code.eq_ignore_ascii_case("UTF-8") || code.eq_ignore_ascii_case("utf8")
 }
 
 // The clock of the runs before the start, where the call asks for them.
@@ -402,10 +389,10 @@ fn tell_of_machine(
 ) -> Result<u8, Problem> {
     let machine = Machine::new(rt, root, call.root.is_some(), known_users(users));
     if call.root.is_none() {
-        return tell(rt, call, kinds, &machine, call.files.as_slice()).map_err(Problem::Unwritten);
+        return tell(rt, call, kinds, &machine, call.files.as_slice());
     }
     let files = machine.crontabs().map_err(Problem::Root)?;
-    tell(rt, call, kinds, &machine, files.as_slice()).map_err(Problem::Unwritten)
+    tell(rt, call, kinds, &machine, files.as_slice())
 }
 
 // What reports are made by.
@@ -524,7 +511,7 @@ fn known_users(text: &Option<Vec<u8>>) -> Option<Users<'_>> {
 
 // The files of a call, and the machine that has them.
 #[derive(Clone, Copy)]
-struct Named<'f> {
+pub(crate) struct Named<'f> {
     machine: &'f Machine<'f>,
     files: &'f [Asked<'f>],
 }
@@ -536,108 +523,16 @@ fn tell(
     kinds: &TermsByKind<'_, '_>,
     machine: &Machine<'_>,
     files: &[Asked<'_>],
-) -> io::Result<u8> {
+) -> Result<u8, Problem> {
     let sources = Named { machine, files };
-    match call.verb {
+    let status = match call.verb {
         Verb::Check => check_in_format(rt, call, kinds, sources),
         Verb::Show => show_in_format(rt, call, kinds, sources),
-        Verb::Plan => plan(rt, call, kinds, sources),
+        Verb::Plan => return plan(rt, call, kinds, sources),
         Verb::Next => answer(rt, call, kinds.of(Dialect::Patterns), Answer::Runs),
         Verb::Describe => answer(rt, call, kinds.of(Dialect::Patterns), Answer::Description),
-    }
-}
-
-// Plans the jobs of the files: as texts, unless a file is asked for.
-fn plan(
-    rt: &HostRuntime,
-    call: &Call<'_>,
-    kinds: &TermsByKind<'_, '_>,
-    sources: Named<'_>,
-) -> io::Result<u8> {
-    let planner = Planner::new(rt.alloc(), plan_asked(rt, call));
-    match call.plan.file {
-        Some(file) => write_file(rt, kinds, sources, planner, file),
-        None => tell_in(rt, kinds, sources, planner),
-    }
-}
-
-// Writes a plan as a file. What has no place in it is told on standard error, and on a page, too; the status is 1 where a calendar hasn't
-// all starts.
-fn write_file(
-    rt: &HostRuntime,
-    kinds: &TermsByKind<'_, '_>,
-    sources: Named<'_>,
-    planner: Planner,
-    file: FileAsked,
-) -> io::Result<u8> {
-    let terms = kinds.of(Dialect::User);
-    let mut notes = rt.stderr();
-    let mut sink = Sink::new(terms, planner, Vec::new(rt.alloc()));
-    let status = tell_files(sources.machine, kinds, sources.files, &mut sink, &mut notes)?;
-    let ignored = sink.out().as_slice();
-    notes.write_all(ignored)?;
-    match file {
-        FileAsked::Calendar(lasts) => write_calendar(rt, &terms, sink.form(), lasts, status),
-        FileAsked::Page => {
-            write_page(rt, &terms, sink.form(), ignored)?;
-            Ok(status)
-        }
-    }
-}
-
-// Writes the calendar of a planner's jobs.
-fn write_calendar(
-    rt: &HostRuntime,
-    terms: &Terms<'_, '_>,
-    planner: &Planner,
-    lasts: Option<u64>,
-    status: u8,
-) -> io::Result<u8> {
-    let Ok(now) = Timestamp::now(rt) else {
-        return Err(io::Error::from(ErrorKind::InvalidData));
     };
-    let Some(stamp) = CivilDateTime::of_wall_second(now.as_second()) else {
-        return Err(io::Error::from(ErrorKind::InvalidData));
-    };
-    let naming = Naming {
-        name: TITLE,
-        stamp,
-        lasts,
-    };
-    let Ok(file) = planner.calendar(terms, naming) else {
-        return Err(io::Error::from(ErrorKind::OutOfMemory));
-    };
-    let text = file.text.as_str();
-    print!(rt; "{text}")?;
-    Ok(if file.is_cut { status.max(1) } else { status })
-}
-
-// Writes the page of a planner's jobs, with what has no place in the plan, as it was told.
-fn write_page(
-    rt: &HostRuntime,
-    terms: &Terms<'_, '_>,
-    planner: &Planner,
-    ignored: &[u8],
-) -> io::Result<()> {
-    let Ok(told) = str::from_utf8(ignored) else {
-        return Err(io::Error::from(ErrorKind::InvalidData));
-    };
-    let mut lines = Vec::new(rt.alloc());
-    for rest in told.lines() {
-        if !rest.is_empty() {
-            lines.push(Line { head: "", rest })?;
-        }
-    }
-    let about = About {
-        title: TITLE,
-        ignored: lines.as_slice(),
-        warnings: &[],
-    };
-    let Ok(text) = planner.page(terms, about) else {
-        return Err(io::Error::from(ErrorKind::OutOfMemory));
-    };
-    let text = text.as_str();
-    print!(rt; "{text}")
+    status.map_err(Problem::Unwritten)
 }
 
 // Tells what is found in the files.
@@ -682,7 +577,7 @@ fn show_in_format(
 }
 
 // Tells of the files in a form.
-fn tell_in<F: Form + Drop>(
+pub(crate) fn tell_in<F: Form + Drop>(
     rt: &HostRuntime,
     kinds: &TermsByKind<'_, '_>,
     sources: Named<'_>,

@@ -4,7 +4,7 @@ use Rattle.croncheck_command.specs.declared.words.Span.{Span}
 use Rattle.croncheck_command.specs.declared.words.Span.TheVariants as spans
 use Rattle.croncheck_command.specs.declared.words.Verb.{Verb}
 use Rattle.croncheck_command.specs.declared.words.Verb.TheVariants as verbs
-use Rattle.croncheck_command.specs.Moment.{IsNamed}
+use Rattle.croncheck_moments.specs.Moment.{IsNamed}
 
 -- what may be asked for: up to 1000 runs, or those up to a moment that a word names
 abbrev pub IsInRange : Span → Type 0

@@ -1,53 +1,5 @@
-//! The crontab checker `croncheck` as a function: what each line of a crontab is to cron, what it means, and when it runs.
+//! The command line of `croncheck`: the words of a call, and why there is no answer.
 #![tactic(auto)]
 
-mod ago;
-mod ahead;
-pub mod allowed;
-pub mod annotator;
-pub mod changes;
-pub mod checker;
-pub mod clock;
-mod date;
-pub mod escaped;
-mod file_seen;
-pub mod files;
-pub mod findings;
-pub mod fitness;
-pub mod folder;
-pub mod form;
-pub mod json;
-pub mod json_checker;
-pub mod json_reporter;
-mod length;
-pub mod look;
-pub mod moment;
-pub mod names;
-mod off;
-pub mod often;
-pub mod output;
-pub mod past;
-pub mod patterns;
-pub mod plan;
-pub mod planner;
-pub mod presets;
-pub mod previous;
 pub mod problem;
-pub mod progress;
-pub mod report;
-pub mod reporter;
-pub mod root;
-pub mod runs;
-pub mod same;
-pub mod sarif;
-pub mod settings;
-pub mod shown;
-pub mod sink;
-mod starred;
-pub mod tally;
-pub mod told;
-pub mod users;
-pub mod warnings;
 pub mod words;
-pub mod wrapped;
-pub mod zone;

@@ -1,7 +1,7 @@
 //! Why a call can't be answered, or not whole.
 
-use crate::clock::NoClock;
-use crate::clock::stop::Stop;
+use croncheck_runs::clock::NoClock;
+use croncheck_runs::clock::stop::Stop;
 use std::{fmt, io};
 
 /// Why a call can't be answered.
@@ -29,6 +29,10 @@ pub enum Problem {
     UntilBeforeFrom,
     /// The reports are not written.
     Unwritten(io::Error),
+    /// The file of a plan isn't written.
+    Unsaved(io::Error),
+    /// A file of the call isn't read, as it was told, so that no file of a plan is written.
+    Unread,
     /// Memory was asked for and not found.
     OutOfMemory,
 }
@@ -51,6 +55,8 @@ impl Problem {
             | Problem::Users(_)
             | Problem::Root(_)
             | Problem::Unwritten(_)
+            | Problem::Unsaved(_)
+            | Problem::Unread
             | Problem::OutOfMemory => 3,
         }
     }
@@ -77,6 +83,11 @@ impl fmt::Display for Problem {
             }
             Problem::UntilBeforeFrom => f.write_str("--until lies before --from"),
             Problem::Unwritten(error) => write!(f, "the output: {error}"),
+            Problem::Unsaved(error) if error.kind() == io::ErrorKind::AlreadyExists => f.write_str(
+                "--output: its name with .part behind it is there: another call writes it now, or was ended while it did; then remove it",
+            ),
+            Problem::Unsaved(error) => write!(f, "--output: the file isn't written: {error}"),
+            Problem::Unread => f.write_str("a file isn't read, so that no plan of them is written"),
             Problem::OutOfMemory => f.write_str("out of memory"),
         }
     }

@@ -1,24 +1,24 @@
 //! The words of a call.
 ghost use Rattle.std.specs.Prelude.{◌≡◌, ◌≤◌, IfOk};
-ghost use Rattle.croncheck_command.specs.Moment.{moment_text, IsNamed};
+ghost use Rattle.croncheck_moments.specs.Moment.{moment_text, IsNamed};
 ghost use Rattle.croncheck_command.specs.Words.{IsInRange, AreInRange, TellsRuns};
 
 mod options;
 mod planning;
 
-use crate::allowed::{ALLOWABLE, nearest_to};
-use crate::escaped::push_shown;
-use crate::moment::{Moment, read_moment};
-use crate::names::{Asked, Places, STANDARD_INPUT, asked_at, asked_files, last_before};
-use crate::planner::PlanAsked;
-use crate::settings::Tongue;
 use clap::ArgMatches;
 use clap::error::ErrorKind;
+use croncheck_files::names::{Asked, Places, STANDARD_INPUT, asked_at, asked_files, last_before};
+use croncheck_moments::moment::{Moment, read_moment};
+use croncheck_output::escaped::push_shown;
+use croncheck_planner::planner::PlanAsked;
+use croncheck_report::allowed::{ALLOWABLE, nearest_to};
+use croncheck_report::settings::Tongue;
 use croner::parser::{CronParser, Seconds, Year};
 use croner_presets::Preset;
 use jiff::civil::Date;
 use options::{program, verb_of, verb_with, verbs_with};
-use planning::plan_asked;
+use planning::{output, plan_asked};
 use std::alloc::{AllocError, Global};
 
 /// The last line of what is told where the words of a call are not of its form.
@@ -115,6 +115,8 @@ pub struct Call<'w> {
     pub patterns: Vec<&'w str>,
     /// What is asked of a plan, with [`Verb::Plan`].
     pub plan: PlanAsked,
+    /// The name of the file that a plan is written to, if it is asked for as a file and a name is given.
+    pub output: Option<&'w str>,
 }
 
 /// What is asked.
@@ -297,7 +299,8 @@ fn call_of<'w>(alloc: Global, verb: Verb, matches: &ArgMatches<'w>) -> Result<Ca
         root: matches.get_str("root"),
         files,
         patterns: patterns(alloc, matches)?,
-        plan: plan_asked(alloc, matches)?,
+        plan: plan_asked(alloc, verb, matches)?,
+        output: output(matches),
     })
 }
 

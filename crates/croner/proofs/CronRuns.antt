@@ -1,5 +1,5 @@
 -- The runs of a pattern as those of what recurs: what its searches find, and why they are refused.
-use Rattle.std.proofs.Common.{◌≡◌, refl, ℤ, Bool, true, false, sym, subst, arith, inl, inr, ◌≤ℤ◌, Result, Ok, Err, IfOk, IfErr}
+use Rattle.std.proofs.Common.{refl, ℤ, Bool, true, false, sym, subst, arith, inl, inr, ◌≤ℤ◌, Result, Ok, Err, IfOk, IfErr}
 use Rattle.std.proofs.lemmas.Bool.{false≢true}
 use Rattle.std.proofs.lemmas.Int.{ints}
 use Rattle.croner_base.specs.declared.errors.CronError.{CronError}

@@ -31,3 +31,4 @@ pub mod Recurring
 pub mod Views
 pub mod Private
 pub mod crontable
+pub mod compact

@@ -13,11 +13,11 @@ use std::alloc::AllocError;
 
 /// The runs of a pattern from a start, in one direction.
 ///
-/// Each item is the position from which the next search starts. A call of `next` that gives no item leaves the iterator
-/// where it stands, so a later call can go on; `fault` says why it gave none where the end of the searched years is not the reason.
+/// Each item is the position from which the next search starts. A call of `next` without an item leaves the iterator where it is,
+/// so a later call can go on; `fault` then says why, unless the searched years have ended.
 ///
-/// In a calm zone ([`CronDateTime`] says when a zone is calm) and from a whole second the items are the runs in order, each once
-/// and none left out between them, over whatever backend; and no item and no fault says that no run is left in the searched
+/// In a calm zone ([`CronDateTime`] says when a zone is calm) and from a whole second the items are the runs in order, each
+/// once, with none left out between them, over any backend. No item and no fault then means that no run is left in the searched
 /// years ([`Cron::find_next_occurrence`] says which these are).
 #[derive(Debug, Drop)]
 pub struct CronIterator<T> {
@@ -35,9 +35,9 @@ impl<T: CronDateTime> CronIterator<T> {
     ghost use Rattle.croner.specs.iterator.Listing.{standing_of, new_standing, counts_position, moved, Settles};
     ghost use Rattle.croner.specs.search.Refusal.{IsRefusal};
 
-    /// An iterator from a start, which counts as that of a search does: where `inclusive` says so, and forward not where a run is
-    /// only carried to it. It keeps the job and the start as they are handed in: it takes no memory, and makes no search before
-    /// the first call of `next`.
+    /// An iterator from a start, which counts as that of a search does: only if `inclusive` is true, and forward not if a run is
+    /// only carried to it. It keeps the job and the start as they are: this takes no memory, and no search is made before the
+    /// first call of `next`.
     ///
     /// ```
     /// let job = Cron::from_str(alloc, "0 0 1 * *")?;
@@ -59,8 +59,8 @@ impl<T: CronDateTime> CronIterator<T> {
         }
     }
 
-    /// The error, other than the limit, that ended the last call of `next`; none where that call gave an item or came to the
-    /// limit, and none before the first call.
+    /// The error, other than the limit, that ended the last call of `next`. `None` where that call gave an item or reached
+    /// the limit, and before the first call.
     ///
     /// ```
     /// let job = Cron::from_str(alloc, "0 0 0 1 1 * 2024")?;
@@ -74,7 +74,7 @@ impl<T: CronDateTime> CronIterator<T> {
         self.fault.as_ref()
     }
 
-    // The way in which it goes.
+    // The direction in which it goes.
     pub(crate) fn direction(&self) -> Direction
         ensures { result ≡ (standing_of T.moment self.now).direction }
     {
@@ -88,7 +88,7 @@ impl<T: CronDateTime> CronIterator<T> {
         self.is_first && self.inclusive
     }
 
-    // Stands at the run that was found from now on, and gives it; or keeps the want of memory for its copy.
+    // Makes the run that was found the position, and returns it; or keeps the lack of memory for its copy as the fault.
     fn step_to(&mut self, found: T) -> Option<T>
         ensures item { IfSome result (λ item. T.moment item ≡ T.moment found) }
         ensures moved { IfSome result
@@ -111,7 +111,7 @@ impl<T: CronDateTime> CronIterator<T> {
         }
     }
 
-    // What a call gives once its search has answered, and where the iterator stands then.
+    // What a call gives once its search has answered; also sets the iterator's position.
     fn settle(&mut self, answer: Result<T, CronError>) -> Option<T>
         requires { IfErr answer (IsRefusal T.can_lack_memory) }
         ensures { Settles T.moment T.can_lack_memory (standing_of T.moment self.old) answer result (standing_of T.moment self.new) }
@@ -126,7 +126,7 @@ impl<T: CronDateTime> CronIterator<T> {
     }
 }
 
-// The error that a call without an item keeps: none for the limit, else the very one that refused its search.
+// The error that a call without an item keeps: none for the limit, else the very error of its search.
 pub(crate) fn fault_of(refusal: CronError) -> Option<CronError>
     ensures { result ≡ fault_of refusal }
 {
@@ -149,7 +149,7 @@ pub(crate) fn copied(fault: &Option<CronError>) -> Option<CronError>
     }
 }
 
-/// A copy stands where the original stands, and gives the same runs from there. The only error is want of memory.
+/// A copy has the same position, and gives the same runs from there. The only error is lack of memory.
 impl<T: CronDateTime> Clone for CronIterator<T> {
     ghost use Rattle.croner.specs.iterator.Listing.{standing_of};
 

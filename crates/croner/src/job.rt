@@ -11,25 +11,25 @@ use croner_pattern::pattern::CronPattern;
 use std::alloc::{AllocError, Global};
 use std::fmt;
 
-/// How a job meets changes of the clock.
+/// How a job behaves where the clock changes.
 ///
-/// A clock that is put forward skips a range of seconds, and one that is put back shows a range twice.
+/// A clock that is put forward skips a range of seconds (a gap), and one that is put back shows a range twice.
 #[derive(Debug, Drop, PartialEq, Eq)]
 pub enum JobType {
-    /// It runs at one time of the day: seconds, minutes and hours each name exactly one value, with step 1 and without a
-    /// star. Where the clock shows that second twice it runs once, at the earlier instant. Where the clock skips it, it runs at
-    /// the first instant after the skipped range, if the date that the clock shows there matches.
+    /// It runs at one time of day: seconds, minutes and hours each name exactly one value, with step 1 and without a star.
+    /// Where the clock shows that second twice, it runs once, at the earlier instant. Where the clock skips the second, it runs
+    /// at the first instant after the skipped range, if the date that the clock shows then matches.
     FixedTime,
-    /// Any other job. It runs at each instant whose clock shows a scheduled second: both times where the clock shows it twice,
-    /// and not at all where the clock skips it.
+    /// Any other job. It runs at each instant at which the clock shows a scheduled second: twice where the clock shows it
+    /// twice, and not at all where the clock skips it.
     IntervalWildcard,
 }
 
-/// A cron job: the pattern of its times. Jobs compare, and are hashed, as their patterns do, and not by their texts.
+/// A cron job: the pattern of its times. Jobs are compared and hashed as their patterns are, not by their texts.
 ///
-/// Each field of its pattern has the shape of its place: the bounds, the modifiers and the offset of such a field. That is part
-/// of the type. The parser gives such a pattern; a `Cron` can be made of another one only where its
-/// [`has_field_shapes`](CronPattern::has_field_shapes) is true, and who writes to `pattern` keeps it so.
+/// Each field of its pattern has the shape of its place: its bounds, modifiers and offset. That is an invariant of the type.
+/// The parser gives such a pattern. A `Cron` can be made of another pattern only if its
+/// [`has_field_shapes`](CronPattern::has_field_shapes) is true, and code that writes to `pattern` has to keep it so.
 #[derive(Debug, Drop, PartialEq, Eq, PartialOrd, Ord, Hash)]
 pub struct Cron {
     /// The fields, the flags and the text.
@@ -60,7 +60,7 @@ impl Cron {
         CronParser::new().parse(alloc, text)
     }
 
-    /// The text of the pattern: in capitals, trimmed, with numbers in the place of nicknames and names.
+    /// The text of the pattern: in capitals, trimmed, with nicknames and names replaced by numbers.
     ///
     /// ```
     /// let job = Cron::from_str(alloc, "@weekly")?;
@@ -72,8 +72,8 @@ impl Cron {
         self.pattern.as_str()
     }
 
-    /// Whether the clock of a time's zone shows a scheduled second there. The fraction of a second is dropped. It is true
-    /// in both halves of a repeated range, and false where a run is only carried over a gap.
+    /// Whether the clock of a time's zone shows a scheduled second at that time. The fraction of a second is dropped.
+    /// True in both halves of a repeated range, and false at a run that is only carried across a gap.
     ///
     /// The answer is always `Ok`.
     ///
@@ -88,7 +88,7 @@ impl Cron {
     {
         let civil = time.to_civil();
         if self.matches_time(civil)? {
-            // The weekday takes longer than all before it, and most times are missed by then.
+            // The weekday takes longer than all before it, and most times are ruled out by then.
             return self.matches_date(civil.date(), time.civil_weekday());
         }
         Ok(false)
@@ -148,7 +148,7 @@ impl Cron {
     }
 }
 
-/// A copy has the same pattern. The only error is want of memory.
+/// A copy has the same pattern. The only error is lack of memory.
 impl Clone for Cron {
     ghost use Rattle.croner.specs.Views.{job_of};
 

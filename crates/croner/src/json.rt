@@ -18,8 +18,8 @@ use std::alloc::Global;
 impl Cron {
     /// The job as a JSON string: its text, as [`as_str`](Self::as_str) gives it.
     ///
-    /// The settings of the parser that read the pattern are not in it: a pattern of another parser than the default one can
-    /// be read back as another job, or be refused. The only error is `OutOfMemory`.
+    /// It doesn't have the settings of the parser that read the pattern: a pattern of a parser other than the default one
+    /// may be read back as a different job, or be refused. The only error is `OutOfMemory`.
     ///
     /// ```
     /// let job = Cron::from_str(alloc, "@daily")?;

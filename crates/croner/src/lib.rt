@@ -1,6 +1,7 @@
 //! Cron patterns and their runs.
 #![tactic(auto)]
 
+mod compact;
 pub mod crontable;
 mod description;
 mod iterator;
@@ -12,6 +13,7 @@ pub mod parser;
 mod recurring;
 mod search;
 
+pub use compact::CompactCron;
 pub use croner_base::component::CronComponent;
 pub use croner_base::time::{
     CivilDate, CivilDateTime, CivilTime, Clocked, CronDateTime, Direction, Resolution,

@@ -13,26 +13,26 @@ use croner_base::errors::CronError;
 use croner_base::time::{CivilDateTime, CronDateTime, Direction};
 
 impl Cron {
-    /// The next run after a time, or from it on where the search is inclusive, in the time's zone.
+    /// The next run after a time, or from it on if the search is inclusive, in the time's zone.
     ///
-    /// An interval job runs at each instant that reads a scheduled second, in both halves of a repeated range. A fixed-time job
-    /// runs at the earlier instant of a repeated second alone, and a second of it that lies in a gap is carried to the gap's end,
-    /// where the date there matches. A run that is only carried to the start itself is not given.
+    /// An interval job runs at each instant at which the clock reads a scheduled second, in both halves of a repeated range. A
+    /// fixed-time job runs only at the earlier instant of a repeated second; its run in a gap is carried to the gap's end, if the
+    /// date there matches. A run that is only carried to the start itself isn't given.
     ///
     /// In a calm zone ([`CronDateTime`] says when a zone is calm) and from a whole second the answer is the nearest run, over
-    /// whatever backend. In every zone and from every start, a fraction of a second included, it is a whole second of the
-    /// start's zone, and an interval job's answer shows a scheduled second.
+    /// any backend. In every zone and from every start, with a fraction of a second or not, it is a whole second in the
+    /// start's zone. At an interval job's answer the clock shows a scheduled second.
     ///
-    /// It is refused by
-    /// - `TimeSearchLimitExceeded`: in a calm zone and from a whole second no run is left in the searched years, which end where
-    ///   the zone's clock first shows year 5000. Runs from then on may be found or not, also where the clock is put back to year
-    ///   4999 once more. It always comes from a start past the years, which reads year 5000 or later with nothing scheduled
-    ///   ahead, as each start from year 5001 on.
-    /// - `InvalidDate` or `InvalidTime`, as the backend has it: a moment that had to be asked for is not held, and a run may be
-    ///   left. Neither comes in a calm zone from a whole second where the years 0 to 5001 and two days around the start are held.
+    /// Errors:
+    /// - `TimeSearchLimitExceeded`: in a calm zone and from a whole second no run is left in the searched years, which end when
+    ///   the zone's clock first shows year 5000. Later runs may be found or not, even if the clock is put back to year 4999.
+    ///   From a start past these years, which reads year 5000 or later with nothing scheduled ahead, this is always the answer,
+    ///   and so it is from every start from year 5001 on.
+    /// - `InvalidDate` or `InvalidTime`, by the backend: it doesn't hold a moment that the search needs, and a run may be left.
+    ///   Neither occurs in a calm zone from a whole second if the years 0 to 5001 and two days around the start are held.
     /// - `OutOfMemory`, only over a backend that can lack memory.
     ///
-    /// Nothing is changed by a search.
+    /// A search changes nothing.
     ///
     /// ```
     /// let job = Cron::from_str(alloc, "30 9,17 * * MON")?;
@@ -51,11 +51,11 @@ impl Cron {
         self.find_occurrence(start, inclusive, Direction::Forward)
     }
 
-    /// The previous run before a time, or from it back where the search is inclusive, in the time's zone: as
-    /// [`find_next_occurrence`](Self::find_next_occurrence), the other way. A run that is only carried to the start counts here
-    /// where the search is inclusive. The searched years begin there where the zone's clock has last shown year 1, and
-    /// `TimeSearchLimitExceeded` always comes from a start that reads year 1 or earlier with nothing scheduled ahead, as each start
-    /// of year 0 or earlier.
+    /// The previous run before a time, or from it back if the search is inclusive, in the time's zone: as
+    /// [`find_next_occurrence`](Self::find_next_occurrence), in the other direction. Here a run that is only carried to the start
+    /// counts, if the search is inclusive. The searched years begin when the zone's clock last shows year 1. From a start that
+    /// reads year 1 or earlier with nothing scheduled before it the answer is always `TimeSearchLimitExceeded`, and so it is from
+    /// every start of year 0 or earlier.
     ///
     /// ```
     /// let job = Cron::from_str(alloc, "30 9,17 * * MON")?;
@@ -87,7 +87,7 @@ impl Cron {
         search::find(alloc, &self.pattern, start, inclusive, direction)
     }
 
-    // The same for a caller that has read the start: `shown` is what it reads.
+    // The same for a caller that has read the start's clock: `shown` is what it reads.
     pub(crate) fn find_occurrence_with_reading<T: CronDateTime>(
         &self,
         start: &T,
@@ -103,8 +103,8 @@ impl Cron {
         search::find_with_reading(alloc, &self.pattern, start, shown, inclusive, direction)
     }
 
-    /// The runs from a start on in a direction; the start counts as in an inclusive search. The pattern is copied for the iterator,
-    /// and the only error is `OutOfMemory`; the start is let go then.
+    /// The runs from a start in a direction; the start counts as in an inclusive search. The pattern is copied for the iterator.
+    /// The only error is `OutOfMemory`; the start is then dropped.
     ///
     /// ```
     /// let job = Cron::from_str(alloc, "*/20 9 * * *")?;

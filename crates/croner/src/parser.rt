@@ -1,4 +1,4 @@
-//! Reading a cron pattern: the settings of a parser, and its one call `parse`.
+//! Reading a cron pattern: the settings of a parser, and its call `parse`.
 
 ghost use Rattle.std.specs.Prelude.{◌≡◌};
 
@@ -33,16 +33,16 @@ pub enum Seconds {
     /// The field may be left out, and is then `0`.
     #[default]
     Optional,
-    /// The field has to be written.
+    /// The field is required.
     Required,
-    /// The field must not be written; it is `0`.
+    /// The field is not allowed; it is `0`.
     Disallowed,
 }
 
 impl Seconds {
     ghost use Rattle.croner.specs.parser.Settings.{seconds_optional, seconds_required, seconds_disallowed};
 
-    /// Whether the field may be left out, and may be written.
+    /// Whether the field may be written or left out.
     pub fn is_optional(&self) -> bool
         ensures { result ≡ seconds_optional self.now }
     {
@@ -52,7 +52,7 @@ impl Seconds {
         }
     }
 
-    /// Whether the field has to be written.
+    /// Whether the field is required.
     pub fn is_required(&self) -> bool
         ensures { result ≡ seconds_required self.now }
     {
@@ -62,7 +62,7 @@ impl Seconds {
         }
     }
 
-    /// Whether the field must not be written.
+    /// Whether the field is not allowed.
     pub fn is_disallowed(&self) -> bool
         ensures { result ≡ seconds_disallowed self.now }
     {
@@ -79,16 +79,16 @@ pub enum Year {
     /// The field may be left out, and is then `*`.
     #[default]
     Optional,
-    /// The field has to be written.
+    /// The field is required.
     Required,
-    /// The field must not be written; it is `*`.
+    /// The field is not allowed; it is `*`.
     Disallowed,
 }
 
 impl Year {
     ghost use Rattle.croner.specs.parser.Settings.{year_optional, year_required, year_disallowed};
 
-    /// Whether the field may be left out, and may be written.
+    /// Whether the field may be written or left out.
     pub fn is_optional(&self) -> bool
         ensures { result ≡ year_optional self.now }
     {
@@ -98,7 +98,7 @@ impl Year {
         }
     }
 
-    /// Whether the field has to be written.
+    /// Whether the field is required.
     pub fn is_required(&self) -> bool
         ensures { result ≡ year_required self.now }
     {
@@ -108,7 +108,7 @@ impl Year {
         }
     }
 
-    /// Whether the field must not be written.
+    /// Whether the field is not allowed.
     pub fn is_disallowed(&self) -> bool
         ensures { result ≡ year_disallowed self.now }
     {
@@ -119,7 +119,7 @@ impl Year {
     }
 }
 
-/// A reader of cron patterns. [`CronParser::builder`] makes one with settings of its own.
+/// A reader of cron patterns. [`CronParser::builder`] makes one with settings of your own.
 #[derive(Debug, Clone, Copy, Default, PartialEq, Eq, PartialOrd, Ord)]
 pub struct CronParser {
     seconds: Seconds,
@@ -161,12 +161,12 @@ impl CronParser {
 
     /// Reads a pattern.
     ///
-    /// The text is raised to capitals (ASCII letters alone) and trimmed; nicknames and names are replaced; the fields are
-    /// counted, tested for their characters and read. The pattern keeps the text in which names are numbers.
+    /// The text is put into capitals (ASCII letters only) and trimmed; nicknames and names are replaced; the fields are
+    /// counted, checked for illegal characters, and read. The pattern keeps the text with numbers for names.
     ///
-    /// The first fault is the answer: `EmptyPattern` for a text of white space alone, `InvalidPattern` for a count of
-    /// fields that the settings don't accept, `IllegalCharacters` for a character that is not legal in its field,
-    /// `ComponentError` for a field that can't be read. `OutOfMemory` where memory runs out.
+    /// The first fault is the answer. It is `EmptyPattern` for a text of only white space, and `InvalidPattern` for
+    /// a count of fields that the settings don't accept. It is `IllegalCharacters` for a character that is not legal
+    /// in its field, and `ComponentError` for a field that can't be read. `OutOfMemory` where memory runs out.
     ///
     /// ```
     /// let parser = CronParser::builder().seconds(Seconds::Required).build();
@@ -182,7 +182,7 @@ impl CronParser {
         }
     }
 
-    /// Reads a text: it is prepared and split into fields, and these are settled and read.
+    /// Reads a text: prepares it, splits it into fields, and settles and reads these.
     fn parse_text(&self, alloc: Global, given: &str) -> Result<CronPattern, Stop>
         ensures { Reads meaning_of result (outcome self.now given.now) }
     {
@@ -193,7 +193,7 @@ impl CronParser {
         self.read(alloc, text, settled.fields(written), settled.and)
     }
 
-    /// A builder that stands at the default settings.
+    /// A builder with the default settings.
     ///
     /// ```
     /// // Seven fields with Quartz weekdays, in which both day fields have to match.
@@ -211,7 +211,7 @@ impl CronParser {
     }
 }
 
-/// The settings of a parser, chosen one by one. The last choice of each counts, and what is not chosen is the default.
+/// The settings of a parser, chosen one by one. The last choice of each counts; what isn't chosen has its default.
 #[derive(Debug, Clone, Copy, Default)]
 pub struct CronParserBuilder {
     parser: CronParser,
@@ -256,7 +256,7 @@ impl CronParserBuilder {
         CronParserBuilder { parser }
     }
 
-    /// Whether a day has to fit the day of month and the weekday both, where neither is `*`.
+    /// Whether a day has to fit both the day of month and the weekday, if neither is `*`.
     ///
     /// ```
     /// let parser = CronParser::builder().dom_and_dow(true).build();
@@ -298,7 +298,7 @@ impl CronParserBuilder {
         CronParserBuilder { parser }
     }
 
-    /// The parser with the settings chosen.
+    /// The parser with the chosen settings.
     ///
     /// ```
     /// let parser = CronParser::builder().build(); // equal to CronParser::new()

@@ -1,4 +1,4 @@
-//! What recurs in time, as a pattern does: the trait by which a scheduler sees its jobs.
+//! What recurs in time, as a pattern does: the trait through which a scheduler uses its jobs.
 ghost use Rattle.std.specs.Prelude.{ℤ, IfOk, IfErr};
 ghost use Rattle.croner_base.specs.declared.time.Direction.{Direction};
 
@@ -6,18 +6,18 @@ use crate::Cron;
 use croner_base::errors::CronError;
 use croner_base::time::{Clocked, Direction};
 
-/// Something that has runs in each zone, and finds them on clocks of the type `T`. A [`Cron`] is one on each clock; an enum with arms of
-/// one's own is another, on the clocks on which all its arms are.
+/// Something that has runs in each zone, and finds them on clocks of the type `T`. A [`Cron`] is one on every clock. So is an enum of
+/// your own, on the clocks for which all its variants are.
 ///
-/// An implementation states once which runs it has; its two searches are then held to it. In a calm zone
+/// An implementation states once which runs it has, and its two searches have to agree with that. In a calm zone
 /// ([`CronDateTime`](crate::CronDateTime) says when a zone is calm) and from a whole second an answer is the nearest
-/// run that counts. In every zone it is a whole second of the start's zone. A search changes nothing. It is refused by
+/// run that counts. In every zone it is a whole second in the start's zone. A search changes nothing. Its errors are
 ///
 /// - `TimeSearchLimitExceeded`: in a calm zone and from a whole second no run that counts is left in the searched
 ///   years ([`Cron::find_next_occurrence`] says which these are).
-/// - `InvalidDate` or `InvalidTime`, as the backend has it: a moment that had to be asked for is not held, and a run
-///   may be left. Neither comes in a calm zone from a whole second where the years 0 to 5001 and two days around the
-///   start are held.
+/// - `InvalidDate` or `InvalidTime`, by the backend: it doesn't hold a moment that the search needs, and a run may
+///   be left. Neither occurs in a calm zone from a whole second if the years 0 to 5001 and two days around the start
+///   are held.
 /// - `OutOfMemory`, only over a backend that can lack memory.
 pub trait Recurring<T: Clocked> {
     ghost use Rattle.croner_base.specs.Zone.{Zone};
@@ -37,7 +37,7 @@ pub trait Recurring<T: Clocked> {
         ensures found { IfOk result (λ t. IsRunFound Direction.Forward (runs self.now) (T.moment after.now) (T.moment t)) }
         ensures refused { IfErr result (IsRunRefused T.can_lack_memory Direction.Forward (runs self.now) (T.moment after.now)) };
 
-    /// The last run up to a time, which counts itself.
+    /// The last run up to and including a time.
     ///
     /// ```
     /// let job = Cron::from_str(alloc, "30 9 * * *")?;

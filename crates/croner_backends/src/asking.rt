@@ -9,9 +9,9 @@ use std::cmp::Ordering;
 
 /// A second on the clock of a table.
 ///
-/// It does what a `TableTime` does, but `resolve_civil` and `checked_add_seconds` ask for memory first of all, and give it back. So a
-/// search over it can lack memory, while a value holds none: it finds the second of another ([`Clocked`]) without memory, as a `BoxedTime`
-/// can't.
+/// It does what a `TableTime` does, but `resolve_civil` and `checked_add_seconds` first ask for memory, and give it back. So a search over
+/// it can lack memory, while a value holds none. Unlike a `BoxedTime`, it can therefore find the time at another second ([`Clocked`])
+/// without memory.
 #[derive(Debug, Clone, Copy)]
 pub struct AskingTime<'t> {
     time: TableTime<'t>,

@@ -9,8 +9,8 @@ use std::cmp::Ordering;
 
 /// A second on the clock of a table, in memory of its own.
 ///
-/// It does what a `TableTime` does, but each call that can answer `OutOfMemory` asks for memory: `resolve_civil` and
-/// `checked_add_seconds` first of all, whatever they answer then, and a clone.
+/// It does what a `TableTime` does, but each call that can give `OutOfMemory` asks for memory: `resolve_civil` and
+/// `checked_add_seconds`, first and whatever their answer, and `clone`.
 #[derive(Debug, Clone, Drop)]
 pub struct BoxedTime<'t> {
     time: Box<TableTime<'t>>,

@@ -1,5 +1,5 @@
-//! Backends and languages of the tests. Each backend does what a second on the clock of a table does, and refuses what that
-//! does not: two are refused memory, the other holds little. Each language is English but for a few of its functions.
+//! Backends and languages of the tests. Each backend is a second on the clock of a table that can fail where that can't:
+//! two can lack memory, and the other holds little. Each language is English except for a few of its functions.
 #![tactic(auto)]
 
 mod asking;

@@ -11,8 +11,8 @@ use std::cmp::Ordering;
 
 /// A second on the clock of a table, from a backend that holds only the instants from a first to a last one.
 ///
-/// A wall second is held where all instants that show it lie between the two, or where none shows it and the gap over it
-/// ends between the two. Every other wall second is refused, as `InvalidTime`.
+/// A wall second is held if all instants that show it lie between the two, or if none shows it and its gap ends between
+/// the two. Every other wall second is refused, as `InvalidTime`.
 #[derive(Debug, Clone, Copy)]
 pub struct NarrowTime<'t> {
     time: TableTime<'t>,
@@ -30,9 +30,9 @@ impl<'t> NarrowTime<'t> {
     ghost use Rattle.croner_backends.specs.Narrow.{is_between, is_skipped};
     ghost use Rattle.croner_backends.specs.NarrowMoment.{narrow_moment, narrow_second};
 
-    /// The second, where `low` and `high` are the first and the last instant that are held, in seconds since
-    /// 1970-01-01T00:00:00 UTC. Refused as `InvalidTime` where the second lies outside them, as it does wherever `low` is
-    /// above `high`.
+    /// The second, with `low` and `high` as the first and the last instant that are held, in seconds since
+    /// 1970-01-01T00:00:00 UTC. `InvalidTime` if the second isn't between them, which is always so if `low` is above
+    /// `high`.
     pub fn new(time: TableTime<'t>, low: i64, high: i64) -> Result<NarrowTime<'t>, CronError>
         ensures ok { IsOk result ↔ ((low ≤ℤ time.entry.second) × (time.entry.second ≤ℤ high)) }
         ensures time { IfOk result (λ t. t.time ≡ time.entry) }
@@ -68,7 +68,7 @@ impl<'t> NarrowTime<'t> {
         self.high
     }
 
-    // Another second between the same bounds, or nothing where it lies outside them.
+    // Another second with the same bounds, or `None` where it is outside them.
     fn kept(&self, time: TableTime<'t>) -> Option<NarrowTime<'t>>
         ensures some { IsSome result ↔ IsTrue (is_between self.now.low self.now.high time.entry.second) }
         ensures value { IfSome result (λ t. narrow_moment t ≡ narrow_second time.entry self.now.low self.now.high) }
@@ -84,7 +84,7 @@ impl<'t> NarrowTime<'t> {
         }
     }
 
-    // What the clock shows at an instant, or nothing where the table does not have that instant.
+    // What the clock shows at an instant, or `None` where the table doesn't have that instant.
     fn shown_at(&self, alloc: Global, second: i64) -> Option<CivilDateTime>
         ensures some { IfSome result (λ c. wall_second c ≡ (table_zone self.now.time.table.now).reads second) }
         ensures none { IfNone result (is_table_second second ≡ false) }

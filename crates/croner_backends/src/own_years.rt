@@ -6,7 +6,7 @@ use croner::errors::CronError;
 use croner_words::english_form;
 use std::alloc::Global;
 
-/// English, but that years are `år 2025`, every so many years the English form over them, and each full minute is `år` too.
+/// English, but years are `år 2025`, a step of years is the English form of that, and each full minute is `år` too.
 #[derive(Default, Clone, Copy)]
 pub struct OwnYears;
 

@@ -25,7 +25,7 @@ fn half_of_day(hour: u16) -> &'static str
     if hour < 12 { "AM" } else { "PM" }
 }
 
-/// English, but that a time of day is told on a clock of twelve hours: `02:00 PM`, `12:00:30 AM`.
+/// English, but a time of day is on a clock of twelve hours: `02:00 PM`, `12:00:30 AM`.
 #[derive(Default, Clone, Copy)]
 pub struct TwelveHours;
 

@@ -3,7 +3,7 @@ use Rattle.std.specs.Prelude.{◌≡◌, Bool, true, false, Result, Ok, Err, Opt
 use Rattle.croner_base.specs.declared.errors.CronError.{CronError}
 use Rattle.croner_base.specs.declared.errors.CronError.TheVariants.{ComponentError, OutOfMemory}
 
--- the error of a field, or want of memory for its message
+-- the error of a field, or lack of memory for its message
 abbrev pub IsFieldError : CronError → Type 0
 IsFieldError (ComponentError m) = ⊤
 IsFieldError OutOfMemory = ⊤

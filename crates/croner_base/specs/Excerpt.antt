@@ -31,7 +31,7 @@ ends_a_line c = is_among 0x2028 0x2029 c
 abbrev pub turns_round : ℕ → Bool
 turns_round c = c == 0x61c || (is_among 0x200e 0x200f c || (is_among 0x202a 0x202e c || is_among 0x2066 0x2069 c))
 
--- the rest of Unicode's property Default_Ignorable_Code_Point, and the three marks of annotations behind it, up to 0xffff
+-- the rest of Unicode's property Default_Ignorable_Code_Point, and the three marks of annotations after it, up to 0xffff
 abbrev pub has_no_width : ℕ → Bool
 has_no_width c =
     c == 0xad || (c == 0x34f || (is_among 0x115f 0x1160 c || (is_among 0x17b4 0x17b5 c || (is_among 0x180b 0x180f c || (is_among 0x200b 0x200d c
@@ -48,7 +48,8 @@ is_unseen c = is_control c || (ends_a_line c || (turns_round c || (has_no_width 
 
 -- ---- what is written
 
--- a character as a message repeats it: one that nobody sees as a backslash and a letter, or its number in hexadecimal digits, every other as it is
+-- a character as a message repeats it: one that nobody sees as a backslash and a letter, or its number in hexadecimal digits, every other
+-- as it is
 abbrev pub shown : ℕ → List ℕ
 shown c =
     if c == 9 then codes "\\t"
@@ -61,7 +62,7 @@ shown c =
 abbrev pub all_shown : List ℕ → List ℕ
 all_shown cs = flat_map shown cs
 
--- what stands behind the characters: a quote, and how many are left out where there are more than so many
+-- what follows the characters: a quote, and how many are left out where there are more than so many
 abbrev pub excerpt_end : ℕ → ℕ → List ℕ
 excerpt_end most count = if nat_le count most then codes "'" else codes "' (characters left out: " ++ (decimal (count - most) ++ codes ")")
 

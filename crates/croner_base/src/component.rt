@@ -1,7 +1,7 @@
 //! One field of a pattern: which values it may hold, and which of them a text has marked, with which modifier.
 //!
 //! A value can be marked plain, as one of the first five such weekdays of a month, as the last one, or as the day
-//! whose nearest weekday is meant. Each modifier is one bit, so that the bits of several are asked for at once.
+//! whose nearest weekday is meant. Each modifier is one bit, so that one question can ask for several.
 
 ghost use Rattle.std.specs.Prelude.{◌≡◌, ◌+◌, ◌-◌, ◌≤◌, ◌<◌, ◌==◌, ◌^◌, ℕ, true, length, OnOk, OnErr, IfOk, IfErr, MatchOption};
 ghost use Rattle.std.specs.Int.{bit_at};
@@ -47,18 +47,18 @@ pub const NTH_5TH_BIT: u8 = 32;
 /// The five bits of the nth weekdays together.
 pub const NTH_ALL: u8 = 62;
 
-/// The last such weekday of the month, or as a feature of the whole field its last day: `L`.
+/// The last such weekday of the month, or, as a feature of the whole field, the month's last day: `L`.
 pub const LAST_BIT: u8 = 64;
 
-/// The weekday that is nearest to a day of the month, or as a feature beside `LAST_BIT` the last weekday: `W`.
+/// The weekday nearest to a day of the month, or, as a feature beside `LAST_BIT`, the month's last weekday: `W`.
 pub const CLOSEST_WEEKDAY_BIT: u8 = 128;
 
 /// One field of a pattern: its bounds, the modifiers that it supports, and for each modifier the set of marked values.
 ///
 /// Marks are added by [`parse`](Self::parse), [`handle_stepping`](Self::handle_stepping) and
-/// [`set_bit`](Self::set_bit). The component keeps the allocator that its maker took: room for every mark is taken
-/// by [`new`](Self::new). Later calls take memory for the message of a refusal, for the lists that they answer, and
-/// for a clone whose values do not fit one word, and for nothing else.
+/// [`set_bit`](Self::set_bit). The component keeps the allocator given to its constructor, and [`new`](Self::new)
+/// takes the memory for every mark. Later calls allocate only for the message of an error, for a list that they
+/// return, and for a clone whose values do not fit one word.
 ///
 /// ```
 /// let mut minutes = CronComponent::new(alloc, 0, 59, NONE_BIT, 0)?;
@@ -85,7 +85,7 @@ impl Model for CronComponent {
     ghost invariant = { λ c. (length c.marks.marks ≡ room c.marks.max) × (c.min ≤ c.marks.max) × (c.marks.max + c.input_offset < 2 ^ 16) };
 }
 
-// By hand, so that a function that lets a component go calls this one.
+// By hand, so that a function that drops a component calls this one.
 impl Drop for CronComponent {
     fn drop(self) {
         let CronComponent {
@@ -104,9 +104,9 @@ impl Drop for CronComponent {
 impl CronComponent {
     /// A component for the values from `min` to `max` that has no marks yet, with step 1.
     ///
-    /// It supports the modifiers in `features`, and plain values and `LAST_BIT` besides. `input_offset` is taken off
-    /// each number that a text names. A component whose `max` is 0 holds no value at all. The only error is
-    /// `OutOfMemory`.
+    /// It supports the modifiers in `features`, and plain values and `LAST_BIT` besides. `input_offset` is
+    /// subtracted from each number that a text names. A component whose `max` is 0 holds no value at all. The only
+    /// error is `OutOfMemory`.
     ///
     /// ```
     /// // The days of a month, of which the nearest weekday may be asked, as in 15W.
@@ -137,7 +137,7 @@ impl CronComponent {
         })
     }
 
-    /// A component of which each part is zero: it holds no value and supports nothing. Takes no memory.
+    /// A component whose every part is zero: it holds no value and supports no modifier. Takes no memory.
     ///
     /// ```
     /// let none = CronComponent::default(alloc);
@@ -221,8 +221,8 @@ impl CronComponent {
         self.marks.max()
     }
 
-    /// The step of the last part with a `/` whose step was read, also of one that was refused for another reason then. Before
-    /// any it is 1, and 0 in a default component.
+    /// The step of the last part with a `/` whose step was read, even if that part was then refused. Before any it is 1, and
+    /// in a default component 0.
     ///
     /// ```
     /// let mut minutes = CronComponent::new(alloc, 0, 59, NONE_BIT, 0)?;
@@ -235,7 +235,7 @@ impl CronComponent {
         self.step
     }
 
-    /// Whether a `*` was read: as the whole field, or before a `/`, where with sloppy ranges nothing stands for one too (`/10`).
+    /// Whether a `*` was read, as the whole field or before a `/`. With sloppy ranges nothing before the `/` counts as one too (`/10`).
     ///
     /// ```
     /// let mut minutes = CronComponent::new(alloc, 0, 59, NONE_BIT, 0)?;
@@ -260,7 +260,7 @@ impl CronComponent {
         self.marks.supported()
     }
 
-    /// What is taken off each number that a text names.
+    /// What is subtracted from each number that a text names.
     ///
     /// ```
     /// // Weekdays that count from 1 for Sunday.
@@ -291,7 +291,8 @@ impl CronComponent {
     /// Marks the value `pos` minus the input offset with each modifier of `bit`, and changes nothing else.
     ///
     /// `ComponentError` where `pos` is below the offset, the value is out of bounds, a bit isn't supported or the
-    /// maximum is 0; `OutOfMemory` where its message finds no memory. An error leaves the component as it was.
+    /// maximum is 0; `OutOfMemory` where there is no memory for its message. An error leaves the component as it
+    /// was.
     ///
     /// ```
     /// let mut weekdays = CronComponent::new(alloc, 0, 7, NTH_ALL, 0)?;
@@ -308,7 +309,7 @@ impl CronComponent {
         Ok(())
     }
 
-    /// Takes the modifiers of `bit` off the value `pos` minus the input offset, and changes nothing else.
+    /// Removes the modifiers of `bit` from the value `pos` minus the input offset, and changes nothing else.
     ///
     /// The errors are those of [`set_bit`](Self::set_bit), and leave the component as it was.
     ///
@@ -328,10 +329,10 @@ impl CronComponent {
         Ok(())
     }
 
-    /// Whether the value has any of the modifiers of `bit`. No offset is taken off.
+    /// Whether the value has any of the modifiers of `bit`. No offset is subtracted.
     ///
     /// `ComponentError` where the value is out of bounds, a bit isn't supported or the maximum is 0; `OutOfMemory`
-    /// where its message finds no memory.
+    /// where there is no memory for its message.
     ///
     /// ```
     /// let mut weekdays = CronComponent::new(alloc, 0, 7, NTH_ALL, 0)?;
@@ -348,11 +349,11 @@ impl CronComponent {
         Ok(self.marks.is_set(value, bit))
     }
 
-    /// Enables the features of `feature` for the whole field: `LAST_BIT` is the month's last day, and
-    /// `CLOSEST_WEEKDAY_BIT` beside it the month's last weekday.
+    /// Enables the features of `feature` for the whole field: `LAST_BIT` for the month's last day,
+    /// and `CLOSEST_WEEKDAY_BIT` besides for its last weekday.
     ///
-    /// `ComponentError` where one of them isn't supported, `OutOfMemory` where its message finds no memory. An error
-    /// leaves the component as it was.
+    /// `ComponentError` where one of them isn't supported, `OutOfMemory` where there is no memory for its message.
+    /// An error leaves the component as it was.
     ///
     /// ```
     /// let mut days = CronComponent::new(alloc, 1, 31, CLOSEST_WEEKDAY_BIT, 0)?;
@@ -395,7 +396,7 @@ impl CronComponent {
         self.enabled_features & feature == feature
     }
 
-    /// Whether a feature is enabled, or a value marked with a modifier other than plain: what such a field names
+    /// Whether a feature is enabled or a value has a modifier other than plain. Which days such a field names
     /// depends on the month.
     ///
     /// ```
@@ -461,7 +462,7 @@ impl CronComponent {
         self.marks.count_from(self.min, bit)
     }
 
-    /// The least plain value from the given one on; `None` where there is none. Refuses nothing and takes no memory.
+    /// The least plain value from the given one on; `None` where there is none. Never fails, and takes no memory.
     ///
     /// ```
     /// let mut minutes = CronComponent::new(alloc, 0, 59, NONE_BIT, 0)?;
@@ -479,7 +480,7 @@ impl CronComponent {
         self.marks.least_from(value.max(self.min))
     }
 
-    /// The greatest plain value up to the given one; `None` where there is none. Refuses nothing and takes no memory.
+    /// The greatest plain value up to the given one; `None` where there is none. Never fails, and takes no memory.
     ///
     /// ```
     /// let mut minutes = CronComponent::new(alloc, 0, 59, NONE_BIT, 0)?;
@@ -501,8 +502,8 @@ impl CronComponent {
 
     /// The values from 0 to 63 that have any of the modifiers of `bit`, as a word: bit v stands for the value v.
     ///
-    /// Each modifier is asked by itself: one that isn't supported adds no value, and keeps out none that another adds.
-    /// [`get_set_values`](Self::get_set_values) lists nothing at all where one isn't supported.
+    /// A modifier that isn't supported adds no value, and the others still add theirs.
+    /// [`get_set_values`](Self::get_set_values), in contrast, lists nothing at all where one isn't supported.
     ///
     /// ```
     /// let mut minutes = CronComponent::new(alloc, 0, 59, NONE_BIT, 0)?;
@@ -543,7 +544,7 @@ impl CronComponent {
     }
 }
 
-/// A copy is equal in all its parts. The only error is want of memory, and a component of one word takes none.
+/// A copy is equal in all its parts. The only error is lack of memory, and a component of one word takes none.
 impl Clone for CronComponent {
     ghost is_clone = { λ original copy. copy ≡ original };
 

@@ -17,21 +17,21 @@ use std::fmt;
 /// ```
 #[derive(Debug, Clone, Drop)]
 pub enum CronError {
-    /// The pattern has nothing but white space.
+    /// The pattern is only white space.
     EmptyPattern,
     /// There is no such date, or the time library doesn't hold it.
     InvalidDate,
     /// There is no such time of day, or the time library doesn't hold it; or a table of offsets, or a second on one, is refused.
     InvalidTime,
-    /// A search came to the end of the years, of its passes or of its look over a gap.
+    /// A search reached the end of the years, the limit of its passes, or the limit of its look across a gap.
     TimeSearchLimitExceeded,
-    /// The pattern has a number of fields that isn't accepted, or isn't a text.
+    /// The number of the pattern's fields isn't accepted, or the pattern isn't a text.
     InvalidPattern(String),
     /// A field has a character that it can't have.
     IllegalCharacters(String),
     /// A part of a field, a value or a mark is refused.
     ComponentError(String),
-    /// Memory was asked for and not found.
+    /// An allocation failed.
     OutOfMemory,
 }
 
@@ -62,7 +62,7 @@ impl fmt::Display for CronError {
 
 impl Error for CronError {}
 
-/// Want of memory.
+/// Lack of memory.
 impl From<AllocError> for CronError {
     ghost from_gives = { λ _ e. e ≡ OutOfMemory };
 
@@ -71,7 +71,7 @@ impl From<AllocError> for CronError {
     }
 }
 
-/// Want of memory; what could not be stored is dropped.
+/// Lack of memory; what could not be stored is dropped.
 impl<T: Drop> From<AllocFailed<T>> for CronError {
     ghost from_gives = { λ _ e. e ≡ OutOfMemory };
 

@@ -9,12 +9,12 @@ use std::fmt;
 /// The most characters of a text that a message repeats.
 const EXCERPT_CHARACTERS: usize = 64;
 
-/// The most of each of two, where a message repeats a part and a piece of it.
+/// The most characters of each, where a message repeats both a part and a piece of that part.
 const HALF_EXCERPT_CHARACTERS: usize = 32;
 
-/// A text as a message repeats it, between quotes: whole where it has at most so many characters, and else its first ones
-/// and how many are left out. It is never cut inside a character. A character that a terminal acts on, or that nobody sees,
-/// stands as `\t`, `\n`, `\r` or by its number, as `\u{1b}`.
+/// A text as a message quotes it: whole if it is short enough, otherwise its first characters and how many are left out.
+/// It is never cut inside a character. A character that a terminal acts on, or that is invisible, is written as `\t`,
+/// `\n`, `\r` or by its number, as `\u{1b}`.
 #[derive(Debug, Clone, Copy)]
 pub struct Excerpt<'t> {
     text: &'t str,
@@ -23,7 +23,7 @@ pub struct Excerpt<'t> {
 }
 
 impl<'t> Excerpt<'t> {
-    /// The excerpt of a text, of at most 64 characters. It is written in at most 686 bytes, however long the text is.
+    /// The excerpt of a text, of at most 64 characters. It takes at most 686 bytes, however long the text is.
     pub fn of(text: &'t str) -> Excerpt<'t>
         ensures text { result.text.now ≡ text.now }
         ensures most { result.most ≡ excerpt_characters }
@@ -35,8 +35,8 @@ impl<'t> Excerpt<'t> {
         }
     }
 
-    /// The excerpt of one of two texts that a message repeats: each has at most 32 characters, and is written in at most
-    /// 366 bytes.
+    /// The excerpt of one of two texts that a message repeats: each has at most 32 characters, and takes at most 366
+    /// bytes.
     pub fn of_one_of_two(text: &'t str) -> Excerpt<'t>
         ensures text { result.text.now ≡ text.now }
         ensures most { result.most ≡ half_excerpt_characters }
@@ -85,7 +85,7 @@ fn character_count(text: &str) -> usize
     text.chars().count()
 }
 
-/// The first characters of a text, so many at most, as a message repeats them.
+/// The first characters of a text, up to a number of them, as a message repeats them.
 #[derive(Clone, Copy)]
 struct Shown<'t> {
     text: &'t str,
@@ -119,8 +119,8 @@ impl fmt::Display for Shown<'_> {
     }
 }
 
-/// A character as a message repeats it: as it is, but one that a terminal acts on, or that nobody sees, as `\t`, `\n`, `\r`
-/// or by its number, as `\u{1b}`.
+/// A character as a message repeats it: one that a terminal acts on, or that is invisible, as `\t`, `\n`, `\r` or by its
+/// number, as `\u{1b}`.
 #[derive(Clone, Copy)]
 pub struct ShownCharacter {
     c: char,
@@ -206,7 +206,7 @@ fn has_no_width_above(c: char) -> bool
         || is_among(c, '\u{e0000}', '\u{e0fff}')
 }
 
-/// Whether a character is a control, ends a line, turns others round or has no width.
+/// Whether a character is a control character, ends a line, reverses the direction of others or has no width.
 fn is_unseen(c: char) -> bool
     ensures { result ≡ is_unseen c }
 {

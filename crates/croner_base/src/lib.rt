@@ -1,4 +1,4 @@
-//! The ground that cron patterns stand on: errors, the calendar, clocks, and the marks of one field.
+//! The basis of cron patterns: errors, the calendar, clocks, and the marks of one field.
 #![tactic(auto)]
 
 pub mod component;

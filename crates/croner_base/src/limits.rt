@@ -1,4 +1,4 @@
-//! Limits that more than one crate goes by.
+//! Limits that more than one crate uses.
 
 use crate::time::{YEAR_LOWER_LIMIT, YEAR_UPPER_LIMIT};
 
@@ -29,11 +29,11 @@ const DAYS_TO_EPOCH: i64 = 719_528;
 /// The first year that a pattern can name.
 const SEARCHED_FROM: i64 = YEAR_LOWER_LIMIT as i64;
 
-/// The year behind the last one.
+/// The year after the last one.
 const SEARCHED_UNTIL: i64 = YEAR_UPPER_LIMIT as i64 + 1;
 
 /// The first wall second of the years that a pattern can name: 0001-01-01T00:00:00. Each year before them has 365 days, and
-/// each fourth one more, but of the whole hundreds only each fourth.
+/// each leap year one more.
 pub const FIRST_SEARCHED_SECOND: i64 = (365 * SEARCHED_FROM + (SEARCHED_FROM + 3) / 4
     - (SEARCHED_FROM + 99) / 100
     + (SEARCHED_FROM + 399) / 400
@@ -51,6 +51,6 @@ pub const LAST_SEARCHED_SECOND: i64 = (365 * SEARCHED_UNTIL + (SEARCHED_UNTIL + 
 /// The most seconds that the clock of a calm zone is moved forward at once.
 pub const GAP_LIMIT_SECONDS: u32 = 86_400;
 
-/// The last year whose seconds a zoned date-time and a table's clock hold, and the first so many years before year 0: each
-/// second of these years plus any offset is an instant of `jiff` and of a table.
+/// From minus this year to this year each second plus any offset is an instant of `jiff` and of a table, so a zoned
+/// date-time and a table's clock hold it.
 pub(crate) const YEAR_LIMIT: i32 = 9_998;

@@ -1,4 +1,4 @@
-//! Steps along the wall clock: to the second, and to the day, that is next to one.
+//! Steps along the wall clock: to the next or the previous second or day.
 ghost use Rattle.std.specs.Prelude.{◌≡◌, ◌+◌, ◌-◌, pos, ◌+ℤ◌, ◌-ℤ◌, MatchOption};
 ghost use Rattle.croner_base.specs.Calendar.{day_seconds};
 ghost use Rattle.croner_base.specs.Civil.{wall_second, day_of_date, seconds_of_time};
@@ -27,7 +27,7 @@ fn time_after(time: CivilTime) -> Option<CivilTime>
     }
 }
 
-// The second before in the same day.
+// The previous second of the same day.
 fn time_before(time: CivilTime) -> Option<CivilTime>
     ensures { MatchOption result (seconds_of_time time ≡ 0)
         (λ moved. seconds_of_time moved + 1 ≡ seconds_of_time time) }
@@ -61,7 +61,7 @@ pub fn day_after(date: CivilDate) -> Option<CivilDate>
     }
 }
 
-/// The day before. `None` before 1 January of the first year of `i32`, -2,147,483,648.
+/// The previous day. `None` before 1 January of the first year of `i32`, -2,147,483,648.
 #[tactic(auto, using(crate::proofs::calendar::WallSteps::days_before))]
 pub fn day_before(date: CivilDate) -> Option<CivilDate>
     ensures { MatchOption result (IsFirstDate date) (λ moved. day_of_date moved ≡ day_of_date date -ℤ pos 1) }
@@ -95,8 +95,8 @@ pub fn second_after(civil: CivilDateTime) -> Option<CivilDateTime>
     }
 }
 
-/// The second before: `2023-12-31T23:59:59` before `2024-01-01T00:00:00`. `None` before the first second of the first year
-/// of `i32`.
+/// The previous second: `2023-12-31T23:59:59` before `2024-01-01T00:00:00`. `None` before the first second of the first
+/// year of `i32`.
 #[tactic(auto, using(crate::proofs::calendar::WallSteps::seconds_before))]
 pub fn second_before(civil: CivilDateTime) -> Option<CivilDateTime>
     ensures { MatchOption result (IsFirstDate civil.date × (seconds_of_time civil.time ≡ 0))

@@ -23,7 +23,7 @@ a_whole_on p n q lt = elim (cases_lt q n) [
   | inr le ↦ absurd (omega (arith, lt, mul-le-mul_right p le))
 ]
 
--- how far a second lies behind the last of an interval's
+-- how far a second lies after the last of an interval's
 pub since_is : (first s : ℤ) (p : ℕ) → 0 < p → first ≤ℤ s → IsSince first p s (pos (unsigned_abs (s -ℤ first) % p))
 since_is first s p some le = record {
   nth = (unsigned_abs (s -ℤ first) / p, omega (arith, ints));

@@ -15,7 +15,7 @@ pub fn read_quartz(alloc: Global, pattern: &str) -> Result<Cron, CronError> {
     parser.parse(alloc, pattern)
 }
 
-/// The runs of a job from a first time to a last one, both counted, and 1,000 at most.
+/// The runs of a job from a first time to a last one, both included, and at most 1,000.
 pub fn runs_between(
     alloc: Global,
     cron: &Cron,
@@ -50,7 +50,7 @@ pub fn show_texts(rt: &HostRuntime, cron: &Cron) -> anyhow::Result<()> {
     Ok(())
 }
 
-/// Why a text is refused, where it is, and what stands there.
+/// Why a text is refused, with the place and the text there.
 pub fn show_fault(rt: &HostRuntime, text: &str) -> anyhow::Result<()> {
     if let Some(fault) = CronParser::new().explain(rt.alloc(), text)? {
         let place = text.get(fault.start..fault.end).unwrap_or("");

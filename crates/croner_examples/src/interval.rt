@@ -1,12 +1,12 @@
-//! A job that runs again and again after the same time.
+//! A job that runs at regular intervals.
 ghost use Rattle.std.specs.Prelude.{◌≡◌, ◌<◌, ◌≤ℤ◌, true, IfOk, IfErr, MatchOption};
 
 use croner::errors::CronError;
 use croner::{Clocked, Recurring};
 
-/// A job that runs at a first second, and from then on always after the same number of seconds, whatever the clock shows.
+/// A job that runs at a first second, and from then on every so many seconds, whatever the clock shows.
 ///
-/// Where its zone's time library doesn't hold the first second it never runs.
+/// If its zone's time library doesn't hold the first second, it never runs.
 #[derive(Debug, Clone, Copy)]
 pub struct Interval {
     first: i64,
@@ -18,7 +18,7 @@ impl Interval {
     ghost use Rattle.croner.specs.Zone.{at_instant};
     ghost use Rattle.croner_examples.specs.Private.Intervals.{IsSince, IsNextSecond, IsLastSecond, IsNotThere};
 
-    /// From a first second on (since 1970, in UTC), so many seconds apart; none where that is 0.
+    /// From a first second on (since 1970, in UTC), every `seconds` seconds; `None` where that is 0.
     pub fn new(first: i64, seconds: u16) -> Option<Interval>
         ensures { MatchOption result (seconds ≡ 0) (λ it. (it.first ≡ first) × (it.seconds ≡ seconds)) }
     {
@@ -28,7 +28,7 @@ impl Interval {
         Some(Interval { first, seconds })
     }
 
-    // The first of its seconds after a second; none where an i64 holds none.
+    // The first of its seconds after a second; `None` where an i64 can't hold it.
     #[tactic(auto, using(crate::proofs::Intervals::first_after))]
     fn second_after(self, second: i64) -> Option<i64>
         ensures { IsNextSecond self.first self.seconds second result }
@@ -53,7 +53,7 @@ impl Interval {
         Some(second - self.passed(second))
     }
 
-    // How many seconds after the last of its seconds a second lies.
+    // How many seconds a second is after the last of the interval's seconds before it.
     fn passed(self, second: i64) -> i64
         requires { self.first ≤ℤ second }
         ensures { IsSince self.first self.seconds second result }

@@ -1,7 +1,7 @@
-//! Jobs whose positions are kept in a file, so that they go on where they stood.
+//! Jobs whose positions are kept in a file, so that they go on from there.
 //!
-//! A run is started first, and its position is written then. So whenever the program is killed, no run is lost: a run that was started
-//! and whose position wasn't written yet is started again, and no other one is.
+//! A run is started first, and then its position is written. So no run is lost, whenever the program is killed. A run that was
+//! started, but whose position wasn't written yet, is started again; no other is.
 use crate::scheduler::{Task, start_next};
 use croner::{Clocked, Recurring};
 use croner_scheduler::Scheduler;
@@ -24,7 +24,7 @@ fn positions<J: Recurring<T>, T: Clocked>(
     Ok(Value::Object(positions))
 }
 
-/// Writes the positions beside the file, which is then put in its place: whenever the program is killed, the file is whole.
+/// Writes the positions to a file beside the old one, which it then replaces: the file is whole, whenever the program is killed.
 pub fn keep<J: Recurring<T>, T: Clocked>(
     rt: &HostRuntime,
     scheduler: &Scheduler<Task<J>, T>,
@@ -39,7 +39,7 @@ pub fn keep<J: Recurring<T>, T: Clocked>(
     Ok(())
 }
 
-/// The positions that were kept; null where nothing was.
+/// The positions that were kept; null if there are none.
 pub fn kept_in(rt: &HostRuntime, path: &str) -> anyhow::Result<Value> {
     match fs::read_to_string(rt, path) {
         Ok(text) => Ok(Value::from_str(rt.alloc(), text.as_str())?),
@@ -48,7 +48,7 @@ pub fn kept_in(rt: &HostRuntime, path: &str) -> anyhow::Result<Value> {
     }
 }
 
-/// Where a job is added: at its position, if that was kept, else at `now`. None where the zone doesn't hold the position.
+/// Where a job is added: at its position, if that was kept, or else at `now`. `None` where the zone doesn't hold the position.
 pub fn position_of<T: Clocked>(kept: &Value, name: &str, now: &T) -> Option<T> {
     let second = kept.get(name).and_then(Value::as_i64);
     now.at_second(second.unwrap_or(Clocked::second(now)))

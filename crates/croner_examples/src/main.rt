@@ -51,7 +51,7 @@ fn show_in_table(
     Ok(())
 }
 
-// A parsed job, of which both day fields must match, and which runs in one hour more.
+// A parsed job, changed so that both day fields must match, and with one more hour.
 fn show_changed(rt: &HostRuntime, now: &DateTime) -> anyhow::Result<()> {
     let mut cron = Cron::from_str(rt.alloc(), "0 9 1 * MON")?;
     own_pattern::match_both_days(&mut cron);

@@ -10,7 +10,7 @@ pub struct Job {
     pub cron: Cron,
 }
 
-/// Prints the runs of a job on the day of a time, 100 at most.
+/// Prints the runs of a job on the day of a time, at most 100.
 pub fn show_day(rt: &HostRuntime, job: &Job, time: &Zoned<'_>) -> anyhow::Result<()> {
     let midnight = time.start_of_day()?;
     for run in job.cron.iter_from(midnight, Direction::Forward)?.take(100) {

@@ -2,7 +2,7 @@
 use croner::errors::CronError;
 use croner::{Cron, CronPattern};
 
-/// The job of a pattern; none where its fields don't have the shapes of their places.
+/// The job of a pattern; `None` where its fields don't have the shapes of their places.
 pub fn job_of(pattern: CronPattern) -> Option<Cron> {
     if pattern.has_field_shapes() {
         Some(Cron { pattern })
@@ -20,10 +20,10 @@ pub fn match_both_days(cron: &mut Cron) {
     cron.pattern.set_flags(day, weekday, true);
 }
 
-/// From now on the job runs in these hours too; its text stays.
+/// From now on the job also runs in these hours; its text stays the same.
 ///
-/// A field that reads a text is changed in a pattern by itself, which is then put in its place behind the test. On an error the
-/// job stays as it was.
+/// The field is changed in a copy of the pattern, which replaces the job's pattern once it is tested. On an error the job
+/// stays as it was.
 pub fn add_hours(cron: &mut Cron, hours: &str) -> Result<(), CronError> {
     let mut pattern = cron.pattern.clone()?;
     pattern.hours.parse(hours)?;

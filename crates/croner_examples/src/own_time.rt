@@ -1,4 +1,4 @@
-//! A time of one's own.
+//! A time type of your own.
 ghost use Rattle.std.specs.Prelude.{◌≡◌, false};
 
 use croner::errors::CronError;
@@ -7,7 +7,7 @@ use croner::{CivilDateTime, CronDateTime, Resolution, Weekday};
 use std::alloc::Global;
 use std::cmp::Ordering;
 
-/// A second on the clock of an office, whose answers say which office it is.
+/// A second on the clock of an office, which the answers of searches keep.
 #[derive(Debug, Clone, Copy)]
 pub struct OfficeTime<'t> {
     /// The office.

@@ -15,7 +15,7 @@ pub enum Plan {
     AsCron(CrontabJob),
     /// By a pattern, but not on some dates.
     OnWorkdays(Workdays),
-    /// Again and again after the same time.
+    /// At regular intervals.
     AtIntervals(Interval),
 }
 

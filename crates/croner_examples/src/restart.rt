@@ -1,4 +1,4 @@
-//! Jobs of four kinds, which go on after a restart where they stood.
+//! Jobs of four kinds, which go on after a restart from where they were.
 use crate::interval::Interval;
 use crate::kept::{keep, kept_in, position_of, start_and_keep};
 use crate::plan::Plan;
@@ -24,7 +24,7 @@ fn backup(alloc: Global) -> anyhow::Result<Plan> {
     Ok(Plan::ByPattern(Cron::from_str(alloc, "0 0 * * *")?))
 }
 
-// At a quarter past 2 and past 3, as cron starts it: where the clock skips the first, at once when it has.
+// At a quarter past 2 and past 3, as cron starts it: where the clock skips the first, right after that.
 fn mail(alloc: Global) -> anyhow::Result<Plan> {
     let cron = Cron::from_str(alloc, "15 2-3 * * *")?;
     Ok(Plan::AsCron(CrontabJob {
@@ -46,7 +46,7 @@ fn probe() -> Option<Plan> {
     Interval::new(1_712_030_400, 5_400).map(Plan::AtIntervals)
 }
 
-// Adds a job where it stood, or at `now` where its position wasn't kept.
+// Adds a job at its position, or at `now` if that wasn't kept.
 fn add<'t>(
     alloc: Global,
     tasks: &mut Tasks<'t>,
@@ -62,7 +62,7 @@ fn add<'t>(
     Ok(())
 }
 
-// What the program does from its start on: it adds its jobs where they stood, and starts what is due.
+// What the program does when it starts: it adds its jobs at their positions, and starts what is due.
 fn start<'t>(rt: &HostRuntime, tasks: &mut Tasks<'t>, now: &TableTime<'t>) -> anyhow::Result<()> {
     let (alloc, kept) = (rt.alloc(), kept_in(rt, POSITIONS)?);
     add(alloc, tasks, "backup", backup(alloc)?, &kept, now)?;

@@ -5,7 +5,7 @@ use croner_scheduler::Scheduler;
 use std::thread;
 use std::time::{Clock, Duration};
 
-/// How many seconds the program sleeps at most: a machine that was suspended wakes late, and clocks are set.
+/// The most seconds that the program sleeps, since a machine that was suspended wakes late, and clocks are set.
 const MOST_SECONDS: u64 = 60;
 
 /// What a job starts, and when it runs.
@@ -15,7 +15,7 @@ pub struct Task<J> {
     pub when: J,
 }
 
-/// Its runs are those of what says when it runs.
+/// Its runs are those of its `when`.
 impl<J: Recurring<T>, T: Clocked> Recurring<T> for Task<J> {
     ghost runs = { λ task. J.runs task.when };
 
@@ -28,7 +28,7 @@ impl<J: Recurring<T>, T: Clocked> Recurring<T> for Task<J> {
     }
 }
 
-/// Starts the first run that is due up to a second; whether there was one.
+/// Starts the first run that is due up to a second. Returns whether there was one.
 pub fn start_next<J: Recurring<T>, T: Clocked>(
     rt: &HostRuntime,
     scheduler: &mut Scheduler<Task<J>, T>,
@@ -46,7 +46,7 @@ pub fn start_next<J: Recurring<T>, T: Clocked>(
     Ok(true)
 }
 
-/// Starts what is due up to a second, in order of time. Gives the second at which to call again; none where no run is left.
+/// Starts what is due up to a second, in order of time. Returns the second at which to call again; `None` where no run is left.
 pub fn start_due<J: Recurring<T>, T: Clocked>(
     rt: &HostRuntime,
     scheduler: &mut Scheduler<Task<J>, T>,

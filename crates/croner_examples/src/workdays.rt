@@ -6,7 +6,7 @@ use croner::errors::CronError;
 use croner::time::CivilDate;
 use croner::{Clocked, Cron, CronDateTime, Direction, Recurring};
 
-/// A job that runs by a pattern, but on no date of a list, by the clock of its zone.
+/// A job that runs by a pattern, except on the dates of a list, by the clock of its zone.
 #[derive(Debug, Drop)]
 pub struct Workdays {
     pub cron: Cron,
@@ -22,7 +22,7 @@ impl Workdays {
     ghost use Rattle.croner_examples.specs.Plans.{IsOn, workday_runs};
     ghost use Rattle.croner_examples.specs.Private.Passed.{IsPassedTo, IsPassedBy};
 
-    // Whether a time lies on a date that is left out.
+    // Whether a time is on a date that is left out.
     fn leaves_out<T: CronDateTime>(&self, time: &T) -> bool
         ensures { IsTrue result ↔ IsOn self.now.left_out.items (reading (T.moment time.now)) }
     {
@@ -40,7 +40,7 @@ impl Workdays {
         }
     }
 
-    // The nearest run from one on, which counts itself, that lies on no date that is left out.
+    // The nearest run, from one on, itself included, that isn't on a date that is left out.
     fn pass_over<T: Clocked>(&self, first: T, direction: Direction) -> Result<T, CronError>
         requires { (T.moment first).fraction ≡ 0 }
         ensures found { IfOk result (λ t. IsPassedTo direction (runs_of (job_of self.now.cron)) (workday_runs self.now) (T.moment first) (T.moment t)) }

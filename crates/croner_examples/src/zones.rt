@@ -6,7 +6,7 @@ use jiff::Timestamp;
 use jiff::tz::{TimeZone, TimeZoneDatabase};
 use std::alloc::Global;
 
-/// The next run of a job on the clock of a zone, as that zone is from 1970 to the end of 2099.
+/// The next run of a job on the clock of a zone, by a table of the years 1970 to 2099.
 pub fn next_in_zone(
     alloc: Global,
     cron: &Cron,

@@ -99,7 +99,7 @@ time_parts w m = seconds_part w m.seconds ++ (minutes_part w m.minutes m.hours +
 abbrev pub stand_alone : Wording → List (List ℕ) → Bool
 stand_alone w parts = nat_lt 1 (length parts) && bytes_eq (slice_index_or parts 0 []) w.every_second_phrase
 
--- no part is every minute, parts behind each second stand as they are, and others have a phrase before them
+-- no part is every minute, parts after each second stand as they are, and others have a phrase before them
 abbrev pub parts_text : Wording → List (List ℕ) → List ℕ
 parts_text w parts =
     if length parts == 0 then w.every_minute
@@ -131,7 +131,7 @@ day_parts w days =
 abbrev pub days_text : Wording → Field → List ℕ
 days_text w days = texts w (day_parts w days)
 
--- the name at a place; behind the last name the first comes again, so that weekday 7 is Sunday as 0 is
+-- the name at a place; after the last name the first comes again, so that weekday 7 is Sunday as 0 is
 abbrev pub cyclic_name : List (List ℕ) → ℕ → List ℕ
 cyclic_name names place = slice_index_or names (place % length names) []
 
@@ -185,7 +185,7 @@ years_text w years =
     else (if nat_lt 1 years.step then w.in_phrase (w.every_x_years years.step)
     else w.in_phrase (w.year_phrase (numbers w (plain_values years))))
 
--- the first letter is raised, where it is an ASCII letter, and a full stop is put behind
+-- the first letter becomes a capital, where it is an ASCII letter, and a full stop is added
 abbrev pub sentence : List ℕ → List ℕ
 sentence [] = []
 sentence (first ∷ more) = to_ascii_uppercase first ∷ (more ++ codes ".")

@@ -11,6 +11,7 @@ pub mod Schedule
 pub mod Directions
 pub mod NextSecond
 pub mod SearchedYears
+pub mod Words
 pub mod Questions
 pub mod Order
 pub mod Written

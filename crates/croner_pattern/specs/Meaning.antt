@@ -3,8 +3,8 @@ use Rattle.std.specs.Prelude.{ℕ, Bool, List}
 use Rattle.croner_base.specs.Field.{Field}
 use Rattle.croner_pattern.specs.declared.pattern.CronPattern.{CronPattern}
 
--- star_day and star_weekday say that the day of month and the weekday were written as `*`, and both that a day has to
--- match both of them. The text is what the pattern prints.
+-- whether the day of month and the weekday were written as `*` (star_day, star_weekday), and whether a day has to
+-- match both (both). The text is what the pattern prints.
 pub record Meaning : Type 0 where
   pub seconds : Field
   pub minutes : Field

@@ -27,7 +27,7 @@ pub mod lang {
 
 /// Describes a pattern in a language: when it runs, on which days, in which months and years, as one sentence.
 ///
-/// The text is known exactly from the fields of the pattern, its flags and what the language means. The only error is
+/// The pattern's fields, its flags and the language's texts determine the sentence exactly. The only error is
 /// `OutOfMemory`.
 ///
 /// ```
@@ -69,7 +69,7 @@ fn texts<L: Language>(
     Ok(parts)
 }
 
-/// Puts a text behind others, unless it is empty.
+/// Appends a text to others, unless it is empty.
 fn push_text(parts: &mut Vec<String>, text: String) -> Result<(), CronError>
     ensures { AddsTexts (filter is_some_text (string_bytes text ∷ [])) parts.old parts.new result }
 {
@@ -79,7 +79,7 @@ fn push_text(parts: &mut Vec<String>, text: String) -> Result<(), CronError>
     lists::push_part(parts, text)
 }
 
-/// The text with its first letter raised, where it is an ASCII letter, and a full stop behind it. An empty text stays empty.
+/// The text with a full stop, and with its first letter as a capital if it is an ASCII letter. An empty text stays empty.
 fn sentence(alloc: Global, text: &str) -> Result<String, CronError>
     ensures { Writes (sentence text.now) result }
 {

@@ -15,6 +15,7 @@ mod flags;
 mod mask;
 mod matching;
 mod text;
+mod words;
 
 use croner_base::component::{
     ALL_BIT, CLOSEST_WEEKDAY_BIT, CronComponent, LAST_BIT, NONE_BIT, NTH_ALL,
@@ -22,20 +23,22 @@ use croner_base::component::{
 use croner_base::errors::CronError;
 use croner_base::limits::{LAST_HOUR, LAST_MINUTE, LAST_MONTH, LAST_SECOND};
 use croner_base::time::{Direction, TimeComponent, YEAR_LOWER_LIMIT, YEAR_UPPER_LIMIT};
+pub(crate) use mask::days_of_month;
 use std::alloc::{AllocError, Global};
 use std::fmt;
 use text::Text;
+pub use words::{PatternWords, Unit};
 
 /// The longest month, in days.
 const LONGEST_MONTH: u16 = 31;
 
-/// Sunday once more: 0 is Sunday too.
+/// Sunday a second time: 0 is Sunday too.
 const LAST_WEEKDAY: u16 = 7;
 
 /// A cron pattern: seven fields, and how its two day fields are joined.
 ///
 /// A date and time is scheduled where its second, minute, hour, month and year are plain values of their fields and its day
-/// fits the two day fields. The pattern keeps the allocator that its maker took.
+/// fits the two day fields. The pattern keeps the allocator given to its constructor.
 ///
 /// ```
 /// let job = Cron::from_str(alloc, "30 9,17 * * MON-FRI")?;
@@ -54,9 +57,9 @@ pub struct CronPattern {
     pub days: CronComponent,
     /// Months, 1 to 12.
     pub months: CronComponent,
-    /// Weekdays, 0 for Sunday to 6 for Saturday. The field has a place 7 besides, which no day matches and which a description
-    /// calls Sunday. Of the texts that a parser reads a lone `*` in Quartz mode alone leaves it marked, with all others; the
-    /// field's own `parse` also marks it for `7`, but not in Quartz mode.
+    /// Weekdays, 0 for Sunday to 6 for Saturday. The field also has a value 7, which no day matches and which a description
+    /// calls Sunday. Of all that a parser reads, only a lone `*` in Quartz mode leaves 7 marked. The field's own `parse` also
+    /// marks it for `7`, except in Quartz mode.
     pub days_of_week: CronComponent,
     /// Years, 1 to 5000.
     pub years: CronComponent,
@@ -68,8 +71,8 @@ pub struct CronPattern {
 }
 
 impl CronPattern {
-    /// A pattern that keeps the text and names nothing yet: each field is empty and has the shape of its place, and the
-    /// flags are false. The text isn't read.
+    /// A pattern that keeps the text, unread, and names nothing yet: each field is empty and has the shape of its
+    /// place, and the flags are false.
     ///
     /// The only error is `OutOfMemory`.
     ///
@@ -92,8 +95,8 @@ impl CronPattern {
         Self::new_in_mode(alloc, text, false)
     }
 
-    /// What [`new`](Self::new) makes, with the weekdays as a mode numbers them: in Quartz mode each number that a text of
-    /// weekdays names has 1 taken off, so that Sunday is 1. The parser makes its patterns by it.
+    /// As [`new`](Self::new), with the weekdays numbered as a mode has them: in Quartz mode 1 is subtracted from each
+    /// number in a text of weekdays, so Sunday is 1. The parser makes its patterns with it.
     ///
     /// The only error is `OutOfMemory`.
     ///
@@ -133,8 +136,8 @@ impl CronPattern {
         })
     }
 
-    /// Whether each field has the bounds, the supported modifiers and the input offset of its place; the offset of the
-    /// weekdays may be 0 or 1. Every pattern from [`new`](Self::new) and from a parser has them.
+    /// Whether each field has the shape of its place: its bounds, supported modifiers and input offset. The offset of
+    /// the weekdays may be 0 or 1. Every pattern from [`new`](Self::new) and from a parser has these shapes.
     ///
     /// ```
     /// let pattern = CronPattern::new(alloc, "by hand")?;
@@ -185,15 +188,15 @@ impl CronPattern {
         self.text.as_str()
     }
 
-    /// The allocator that the pattern's maker took.
+    /// The allocator that the pattern's constructor was given.
     pub fn allocator(&self) -> Global
         ensures { result ≡ self.now.alloc }
     {
         self.alloc
     }
 
-    /// Whether seconds, minutes and hours each name exactly one value, with step 1 and without a `*`: such a pattern runs
-    /// at one time of the day.
+    /// Whether seconds, minutes and hours each name exactly one value, with step 1 and without a `*`. Such a pattern runs
+    /// at one time of day.
     ///
     /// ```
     /// let daily = Cron::from_str(alloc, "30 9 * * *")?.pattern.is_fixed_time(); // true
@@ -207,12 +210,12 @@ impl CronPattern {
         is_single(&self.hours) && is_single(&self.minutes) && is_single(&self.seconds)
     }
 
-    /// The least plain value from `value` on (forward), or the greatest up to it (backward), of the seconds, minutes or
-    /// hours; `None` where there is none.
+    /// The least plain value of the seconds, minutes or hours from `value` on (forward), or the greatest up to it
+    /// (backward); `None` where there is none.
     ///
-    /// `ComponentError` for another component, for a value above the field's maximum, and, on a field of another shape,
-    /// for a forward search from below its minimum and for any search where its maximum is 0; `OutOfMemory` where the
-    /// message finds no memory.
+    /// `ComponentError` for another component, and for a value above the field's maximum. A field without the shape of
+    /// its place also refuses a forward search from below its minimum, and any search if its maximum is 0.
+    /// `OutOfMemory` where there is no memory for the message.
     ///
     /// ```
     /// let job = Cron::from_str(alloc, "*/20 9 * * *")?;
@@ -260,7 +263,7 @@ impl CronPattern {
             && self.days_of_week.is_of_one_word()
     }
 
-    // A clone around what takes memory. All else is copied in one go, from field to field.
+    // A clone, given the two parts that take memory. The rest is copied in one go, field by field.
     #[inline(always)]
     fn clone_around(&self, years: CronComponent, text: Text) -> Self
         requires { has_fields_of_one_word (meaning_of self.now) ≡ true }
@@ -292,7 +295,7 @@ impl CronPattern {
     }
 }
 
-/// What is taken off the number of a weekday.
+/// What is subtracted from the number of a weekday.
 fn weekday_offset(quartz: bool) -> u16
     ensures { result ≡ (if quartz then 1 else 0) }
 {
@@ -320,7 +323,7 @@ pub fn nearest_member(field: &CronComponent, value: u16, direction: Direction) -
     }
 }
 
-/// Whether a value has one of the modifiers, where the field can be asked.
+/// Whether a value has one of the modifiers, if the field can answer that.
 #[inline(always)]
 fn ask(field: &CronComponent, value: u16, bit: u8) -> Result<bool, CronError>
     ensures { Finds (λ held. held) (asked bit field.now value) result }
@@ -339,8 +342,8 @@ fn is_single(field: &CronComponent) -> bool
 impl Clone for CronPattern {
     ghost is_clone = { λ original copy. meaning_of copy ≡ meaning_of original };
 
-    // What takes memory comes first, so that nothing that is copied has to wait in a third place. A function of its own,
-    // since a caller that it is built into joins both ways, and puts each field aside for that.
+    // What takes memory comes first, so that no copied field has to be set aside meanwhile. Not inlined, since a caller
+    // that contains it would join both paths, and set each field aside for that.
     #[inline(never)]
     fn clone(&self) -> Result<CronPattern, AllocError> {
         if self.has_fields_of_one_word() {

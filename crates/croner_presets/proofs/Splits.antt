@@ -14,7 +14,7 @@ before c s None h low =
     ap (λ n. take n s) end ∙ take_all (length s) s (omega arith)
 before c s (Some x) h low = (h low (λ w o is. is)).0
 
--- what stands behind it, where it stands somewhere, and else nothing
+-- what follows it, where it stands somewhere, and else nothing
 pub after : (c : ℕ) (s : List ℕ) (r : Option (Bor (List ℕ) × Bor (List ℕ))) → SplitsAtFirstByte (FindsChar c) (Some c) s r → c < 128
     → MatchOption r (after_first (λ b. b == c) s ≡ []) (λ x. x.1.now ≡ after_first (λ b. b == c) s)
 after c s None h low =

@@ -39,7 +39,7 @@ is_nickname_in_capitals text words = is_nickname words && has_capital text
 abbrev pub is_midnight : List (List ℕ) → Bool
 is_midnight words = bytes_eq (first_word words) (codes "@MIDNIGHT") && length words == 1
 
--- `@every`, and a word behind it
+-- `@every`, and a word after it
 abbrev pub is_every : List (List ℕ) → Bool
 is_every words = bytes_eq (first_word words) (codes "@EVERY") && length words == 2
 
@@ -77,7 +77,7 @@ has_other_name t =
 abbrev pub has_plus : Texts → Bool
 has_plus t = begins_with plus t.days_of_week
 
--- behind it stands a digit
+-- after it stands a digit
 abbrev pub has_plus_digit : Texts → Bool
 has_plus_digit t = has_plus t && is_digit_at 1 t.days_of_week
 
@@ -156,11 +156,11 @@ has_star_among_days t = not (is_lone_star t.days || is_lone_star t.days_of_week)
 abbrev pub any_pair : (ℕ → ℕ → Bool) → List ℕ → Bool
 any_pair test values = list_any (λ a. list_any (test a) values) values
 
--- a minute, and one of the same hour fewer than five behind it
+-- a minute, and one of the same hour fewer than five after it
 abbrev pub is_close : ℕ → ℕ → Bool
 is_close a b = nat_lt a b && nat_lt (b - a) 5
 
--- a minute, and one of the next hour fewer than five behind it
+-- a minute, and one of the next hour fewer than five after it
 abbrev pub is_close_over_turn : ℕ → ℕ → Bool
 is_close_over_turn a b = nat_lt b a && nat_lt 55 (a - b)
 

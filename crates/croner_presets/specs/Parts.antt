@@ -19,7 +19,7 @@ front part = before_first (λ b. b == slash) part
 abbrev pub has_step : List ℕ → Bool
 has_step part = contains_byte slash part
 
--- what stands behind the first slash
+-- what follows the first slash
 abbrev pub step_of : List ℕ → List ℕ
 step_of part = after_first (λ b. b == slash) part
 
@@ -136,11 +136,11 @@ abbrev pub is_modified : List ℕ → Bool
 is_modified part = not (is_starred part) && (not (bytes_eq part (codes "JUL"))
     && (contains_byte hash part || (ends_with letter_l part || ends_with letter_w part)))
 
--- a step greater than this behind a star, a number or nothing
+-- a step greater than this after a star, a number or nothing
 abbrev pub steps_above : ℕ → List ℕ → Bool
 steps_above n part = has_step part && (not (is_range part) && (not (is_capital (slice_index part 0)) && is_above n (step_of part)))
 
--- a name, and behind it another letter but the L
+-- a name, and after it another letter but the L
 abbrev pub is_long_name : List ℕ → Bool
 is_long_name part = begins_with_name part && (is_capital (slice_index part 3) && not (slice_index part 3 == letter_l))
 

@@ -2,8 +2,8 @@
 ghost use Rattle.std.specs.Prelude.{◌≡◌};
 ghost use Rattle.croner_presets.specs.Presets.{kind_of};
 
-/// Where a program reads a pattern otherwise than the parser with its settings. Each is about one form that stands in the text; where a text
-/// has several of them, or is wrong besides, another one can decide.
+/// A way in which a program reads a pattern differently from the parser with its settings. Each is about one form in the text. Where a text
+/// has several of these forms, or is otherwise wrong, another one may decide.
 #[derive(Debug, Clone, Copy, PartialEq, Eq, Drop)]
 pub enum Difference {
     // ---- refused by the program
@@ -15,15 +15,15 @@ pub enum Difference {
     SundayAsSeven,
     /// A range to `SUN`, as `MON-SUN`.
     RangeToSunday,
-    /// A name in a field that has no names, or no such names.
+    /// A name in a field that has no such name.
     OtherName,
     /// `L`, `W` or `#` in a day field.
     DayModifier,
     /// A `?` in a day field.
     QuestionMark,
-    /// A `+` in front of the weekdays.
+    /// A `+` before the weekdays.
     Plus,
-    /// A `+` in front of the weekdays, and no digit behind it.
+    /// A `+` before the weekdays, and no digit after it.
     PlusBeforeName,
     /// A step without a start, as `/15`.
     StepWithoutStart,
@@ -31,7 +31,7 @@ pub enum Difference {
     EmptyPart,
     /// A `?` in neither day field, or in both.
     NotOneOpenDay,
-    /// An `L` in a list of more parts.
+    /// An `L` in a list of several parts.
     LastInList,
     /// Two `#` in the weekdays.
     SecondNth,
@@ -40,23 +40,23 @@ pub enum Difference {
     /// A range from a name to a number, or from a number to a name.
     MixedRange,
     // ---- taken by the program
-    /// A star in a list of more parts.
+    /// A star in a list of several parts.
     StarInList,
     /// `@midnight`.
     Midnight,
     /// `@every` and a duration.
     Every,
-    /// `TZ=` or `CRON_TZ=` in front.
+    /// `TZ=` or `CRON_TZ=` before the pattern.
     ZoneInFront,
     /// A `?` in minutes, hours or months.
     QuestionMarkElsewhere,
-    /// So many days before a month's last, as `L-3`.
+    /// Days before a month's last, as `L-3`.
     DaysBeforeLast,
     /// A range that goes down, as `FRI-MON`.
     RangeDown,
     /// A step of 0.
     StepOfZero,
-    /// More letters behind a name, as `MONDAY`.
+    /// More letters after a name, as `MONDAY`.
     LongName,
     /// Day 0 of a month.
     DayZero,
@@ -65,21 +65,21 @@ pub enum Difference {
     StarAmongDays,
     /// A range from Sunday to `SUN`.
     SundayToSunday,
-    /// A `+` in front of the weekdays, and a digit behind it.
+    /// A `+` before the weekdays, and a digit after it.
     PlusBeforeNumber,
-    /// A step that leads from a weekday to 7.
+    /// A step that leads from a weekday to the value 7.
     StepToSunday,
-    /// Two minutes fewer than five apart.
+    /// Two minutes less than five apart.
     Frequent,
-    /// A `#` in a list of more parts.
+    /// A `#` in a list of several parts.
     NthInList,
-    /// A `W` in a list of more parts.
+    /// A `W` in a list of several parts.
     NearestInList,
     /// `29W`, `30W` or `31W`.
     LateNearest,
-    /// Weekdays that are `L`.
+    /// Weekdays that are just `L`.
     LoneLastWeekday,
-    /// A step behind a name.
+    /// A step after a name.
     StepOfName,
     /// A step in a day field with a `?`.
     StepOfOpenDay,
@@ -90,11 +90,11 @@ pub enum Difference {
 /// How a program differs.
 #[derive(Debug, Clone, Copy, PartialEq, Eq, Drop)]
 pub enum Kind {
-    /// It refuses what the parser takes.
+    /// It refuses what the parser accepts.
     Refuses,
-    /// It takes what the parser refuses.
+    /// It accepts what the parser refuses.
     Takes,
-    /// Both take it, and it means something else.
+    /// Both accept it, with different meanings.
     ReadsOtherwise,
 }
 

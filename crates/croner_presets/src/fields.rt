@@ -32,7 +32,7 @@ pub(crate) fn words_of(alloc: Global, text: &str) -> Result<Vec<&str>, AllocErro
     Ok(words)
 }
 
-/// The fields of some words, where the settings of a preset accept so many.
+/// The fields of some words, if the settings of a preset accept that many.
 pub(crate) fn fields_of<'t>(preset: Preset, words: &[&'t str]) -> Option<Fields<'t>>
     ensures { option_map fields_seen result ≡ fields_of (settings_of preset) (map (λ w. w.now) words.now) }
 {

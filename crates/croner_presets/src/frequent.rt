@@ -13,7 +13,7 @@ use croner::Cron;
 use croner::errors::CronError;
 use std::alloc::Global;
 
-/// How many minutes lie at least between two starts.
+/// The least number of minutes between two starts.
 const LEAST_MINUTES: u16 = 5;
 
 const MINUTES_OF_HOUR: u16 = 60;
@@ -80,7 +80,7 @@ fn is_frequent_by(hours: &[u16], minutes: &[u16]) -> bool
     any_close(minutes) || (any_next(hours) && any_close_over_turn(minutes))
 }
 
-// Whether a job that was read is frequent, and so the text that it means.
+// Whether a job that was read is frequent, and so its text.
 #[tactic(auto, using(crate::proofs::Told::read_frequent))]
 fn is_frequent(job: &Cron) -> Result<bool, CronError>
     ensures ok { (meaning : Result Meaning Refusal) → meaning ≡ Ok (job_of job.now) → IfOk result (λ yes. yes ≡ means_frequent meaning) }
@@ -91,7 +91,7 @@ fn is_frequent(job: &Cron) -> Result<bool, CronError>
     Ok(is_frequent_by(hours.as_slice(), minutes.as_slice()))
 }
 
-/// Whether a text is read by the preset's parser, and two of its minutes lie fewer than five apart. The only error is `OutOfMemory`.
+/// Whether the preset's parser reads a text, and two of its minutes are less than five apart. The only error is `OutOfMemory`.
 pub(crate) fn means_frequent(alloc: Global, preset: Preset, text: &str) -> Result<bool, CronError>
     ensures ok { IfOk result (λ yes. yes ≡ means_frequent (outcome (settings_of preset) text.now)) }
     ensures err { IfErr result (λ e. e ≡ CronError.OutOfMemory) }
@@ -102,7 +102,7 @@ pub(crate) fn means_frequent(alloc: Global, preset: Preset, text: &str) -> Resul
     }
 }
 
-// What a refusal shows: that the text isn't frequent, unless memory ran out.
+// The answer for a refused text: it isn't frequent, unless memory ran out.
 #[tactic(auto, using(crate::proofs::Told::not_frequent))]
 fn not_read(error: &CronError) -> Result<bool, CronError>
     ensures ok { (meaning : Result Meaning Refusal) → Fails error.now meaning → IfOk result (λ yes. yes ≡ means_frequent meaning) }

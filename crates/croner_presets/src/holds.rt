@@ -11,11 +11,11 @@ use crate::preset::Preset;
 use croner::errors::CronError;
 use std::alloc::Global;
 
-/// Where a program reads this text otherwise than the parser of its preset does: all that holds of what is looked for, in that order, and
-/// nothing else.
+/// The differences between how a program reads this text and how the parser of its preset does: exactly those of
+/// [`looked_for`](Preset::looked_for) that hold, in that order.
 ///
-/// Each is about a form that stands in the text, not about the whole of it: where the text is wrong besides, both may refuse it. The only
-/// error is `OutOfMemory`.
+/// Each is about a form in the text, not about the whole text: where the text is otherwise wrong, both may refuse it. The only error is
+/// `OutOfMemory`.
 ///
 /// ```
 /// let found = differences(alloc, Preset::Kubernetes, "0 9 * * 7")?; // [Difference::SundayAsSeven]
@@ -29,7 +29,7 @@ pub fn differences(alloc: Global, preset: Preset, text: &str) -> Result<Vec<Diff
     those_that_hold(alloc, preset, text, words.as_slice(), preset.looked_for())
 }
 
-// Of some differences those that hold of a text with these words.
+// Those of some differences that hold of a text with these words.
 fn those_that_hold(
     alloc: Global,
     preset: Preset,
@@ -111,7 +111,7 @@ fn has_zone(text: &str, words: &[&str]) -> bool
 
 // ---- the fields
 
-// Whether a difference of fields holds, where there are fields.
+// Whether a difference of fields holds, if there are fields.
 fn holds_of_fields(fields: Option<Fields<'_>>, difference: Difference) -> bool
     ensures { result ≡ of_fields (λ t. holds_of_fields t difference) (option_map fields_seen fields.entry) }
 {

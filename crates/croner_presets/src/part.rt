@@ -19,7 +19,7 @@ pub(crate) enum Form {
     MonthName,
     /// A side is the name of a weekday.
     WeekdayName,
-    /// It has an `L` or `W` behind it, or a `#`.
+    /// It ends with `L` or `W`, or has a `#`.
     Modified,
     /// A step without a start.
     WithoutStart,
@@ -27,7 +27,7 @@ pub(crate) enum Form {
     Star,
     /// A question mark, and nothing else.
     Open,
-    /// A question mark in the place of a star.
+    /// A question mark in place of a star.
     QuestionMark,
     /// A star with a step above 1.
     StarStep,
@@ -37,7 +37,7 @@ pub(crate) enum Form {
     Down,
     /// A range from a name to a number, or from a number to a name.
     Mixed,
-    /// A step above this, behind a star, a number or nothing.
+    /// A step above this, after a star, a number or nothing.
     StepAbove(u16),
     /// A step of 0.
     StepOfZero,
@@ -47,7 +47,7 @@ pub(crate) enum Form {
     StepOfName,
     /// All values: a star or a question mark, with no step but 1.
     All,
-    /// A weekday with a step that leads to 7.
+    /// A weekday with a step that leads to the value 7.
     ReachesSeven,
     /// `29W`, `30W` or `31W`.
     LateNearest,
@@ -307,7 +307,7 @@ fn is_capital_at(text: &str, at: usize) -> bool
     }
 }
 
-/// Whether a decimal digit stands at a place of a text.
+/// Whether there is a decimal digit at a place of a text.
 pub(crate) fn is_digit_at(text: &str, at: usize) -> bool
     ensures { result ≡ is_digit_at at text.now }
 {

@@ -8,9 +8,9 @@ use croner::parser::{CronParser, Seconds, Year};
 /// A program that reads patterns.
 #[derive(Debug, Clone, Copy, PartialEq, Eq, Drop)]
 pub enum Preset {
-    /// The schedule of a CronJob, as `robfig/cron` 3.0.1 reads it.
+    /// The schedule of a Kubernetes CronJob, as `robfig/cron` 3.0.1 reads it.
     Kubernetes,
-    /// The schedule of a workflow, as GitHub's documentation has it.
+    /// The schedule of a workflow, by GitHub's documentation.
     Github,
     /// `CronExpression` of Quartz 2.3.2.
     Quartz,
@@ -27,7 +27,7 @@ pub const PRESETS: [Preset; 4] = [
 ];
 
 impl Preset {
-    /// The word by which it is asked for: `kubernetes`, `github`, `quartz` or `spring`.
+    /// Its name as an option's word: `kubernetes`, `github`, `quartz` or `spring`.
     pub fn name(self) -> &'static str
         ensures { result.now ≡ name_of self }
     {
@@ -39,7 +39,7 @@ impl Preset {
         }
     }
 
-    /// The preset of that name, which has no capital letter.
+    /// The preset with that name, in lower case.
     pub fn of_name(name: &str) -> Option<Preset>
         ensures { MatchOption result (IsNoName name.now) (λ preset. name.now ≡ name_of preset) }
     {
@@ -52,9 +52,9 @@ impl Preset {
         }
     }
 
-    /// The parser that comes nearest to the program. Kubernetes and GitHub have five fields, and steps that may follow a number; Quartz
-    /// has seconds, years that may be left out, weekdays from 1 for Sunday, and such steps; Spring has seconds, no years, such steps, and a
-    /// day has to match both day fields.
+    /// The parser that comes nearest to the program. Kubernetes and GitHub have five fields, and steps may follow a number. Quartz has
+    /// seconds, optional years, weekdays from 1 for Sunday, and such steps. Spring has seconds, no years, such steps, and a day has to
+    /// match both day fields.
     pub fn parser(self) -> CronParser
         ensures { result ≡ settings_of self }
     {
@@ -75,8 +75,8 @@ impl Preset {
         }
     }
 
-    /// What is looked for in a text, in the order in which it is told: what the program refuses, what it takes, and what it reads
-    /// otherwise.
+    /// The differences looked for in a text, in the order in which they are listed: what the program refuses, what it accepts,
+    /// and what it reads differently.
     pub fn looked_for(self) -> &'static [Difference]
         ensures { result.now ≡ looked_for self }
     {

@@ -19,7 +19,7 @@ impl Preset {
         }
     }
 
-    /// A sentence that says of a difference what the program does. The only error is want of memory.
+    /// A sentence that says what the program does where a difference holds. The only error is lack of memory.
     pub fn sentence(self, alloc: Global, difference: Difference) -> Result<String, AllocError>
         ensures { IfOk result (λ said. SaysOf self (string_bytes said)) }
     {
@@ -30,7 +30,7 @@ impl Preset {
 }
 
 impl Difference {
-    // What the program does, behind its name.
+    // What the program does, to follow its name.
     fn text(self) -> &'static str {
         match self {
             Difference::NicknameInCapitals => "takes nicknames in small letters alone",

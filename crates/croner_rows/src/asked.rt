@@ -1,4 +1,4 @@
-//! The operations that more than one tool has, by their names.
+//! The operations that several tools share, by their names.
 
 use crate::comparisons::{of_iterators, of_jobs};
 use crate::field_calls::call_of_field;

@@ -14,13 +14,13 @@ use std::alloc::{AllocError, Global};
 
 /// Calls that are made over clocks of any kind.
 pub trait OverClocks {
-    /// Makes the calls over a time on each clock, and gives what they gave.
+    /// Makes the calls over a time on each clock, and returns what they gave.
     fn outcome<T: Clocked>(&self, caller: Caller<'_>, clocks: &[T]) -> Result<Outcome>;
 }
 
-/// Makes calls over the clocks of a question's member `zones`. All are of the kind of the first: civil time where that is null, a rule,
-/// a table that is `asking`, over the backend that asks for memory for each answer, one that is `held`, over the one that holds what
-/// lies between two instants, or a table.
+/// Makes calls over the clocks of a question's member `zones`. All are of the kind of the first: civil time (null), a rule, or a table.
+/// A table that is `asking` is over the backend that asks for memory for each answer, and one that is `held` over the backend that
+/// holds only what lies between two instants.
 pub fn over_clocks<C: OverClocks>(
     caller: Caller<'_>,
     question: &Value,
@@ -76,7 +76,7 @@ fn tables_of(alloc: Global, zones: &[Value]) -> Result<Vec<ClockTable>> {
     Ok(tables)
 }
 
-// A second on each table: the first that is held, where that is said.
+// A second on each table: the first that is held, if that is given.
 fn times_of<'t>(
     alloc: Global,
     zones: &[Value],

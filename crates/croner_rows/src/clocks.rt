@@ -14,13 +14,13 @@ use std::alloc::{AllocError, Global};
 
 /// Calls that are made over a time of any clock.
 pub trait OverTime {
-    /// Makes the calls, and gives what they gave.
+    /// Makes the calls, and returns what they gave.
     fn outcome<T: Moment>(&self, caller: Caller<'_>, time: T) -> Result<Outcome>;
 }
 
-/// Makes calls over the start of a question, on the clock of its member `zone`: civil time where there is none, a rule, or a
-/// table, which may be `boxed`, over the backend that takes memory for each answer, or `held`, over the one that holds what lies
-/// between two instants.
+/// Makes calls over the start of a question, on the clock of its member `zone`: civil time if there is none, a rule, or a table.
+/// A table that is `boxed` is over the backend that takes memory for each answer, and one that is `held` over the backend that
+/// holds only what lies between two instants.
 pub fn over_time<C: OverTime>(caller: Caller<'_>, question: &Value, calls: &C) -> Result<Outcome> {
     match question.get("zone") {
         None | Some(Value::Null) => calls.outcome(caller, civil_start(question)?),
@@ -54,7 +54,7 @@ pub fn narrow_time<'t>(time: TableTime<'t>, held: &Value) -> Result<NarrowTime<'
     Ok(NarrowTime::new(time, number(low)?, number(high)?)?)
 }
 
-// The start in civil time. Where there is none, any value of the clock will do.
+// The start in civil time. If there is none, any value on the clock will do.
 fn civil_start(question: &Value) -> Result<DateTime> {
     match question.get("start") {
         None => Ok(DateTime::MIN),
@@ -116,8 +116,8 @@ fn read_series(series: &Value, changes: &mut Vec<(i64, i32)>) -> Result<()> {
     Ok(add_series(changes, count, from, apart, offsets)?)
 }
 
-/// Adds so many changes from an instant on, each so many seconds after the one before, whose offsets are the two that are given
-/// in turn.
+/// Adds a number of changes from an instant on, each so many seconds after the one before. Their offsets alternate between the
+/// two given.
 pub fn add_series(
     changes: &mut Vec<(i64, i32)>,
     count: u32,

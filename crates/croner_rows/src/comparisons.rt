@@ -1,4 +1,4 @@
-//! Equality, order and hash of jobs and of iterators, which make no request for memory.
+//! Equality, order and hash of jobs and of iterators, which take no memory.
 
 use crate::{
     Caller, Fault, How, Job, Outcome, Result, Runs, Subject, civil_value, hash_of, member, shown,
@@ -34,7 +34,7 @@ pub fn of_iterators(caller: Caller<'_>, question: &Value) -> Result<Outcome> {
     compared(caller, one, other, order)
 }
 
-// An iterator over the runs of a job from a civil start, made as a member of the question says, and asked for one run where that
+// An iterator over the runs of a job from a civil start, made as a member of the question says, and asked for one run if that
 // says so.
 fn asked_runs<'j>(job: &'j Job, question: &Value, name: &str) -> Result<Runs<'j, DateTime>> {
     let (start, side) = (civil_value(question, "start")?, member(question, name)?);

@@ -8,7 +8,7 @@ use std::{fmt, io};
 /// Why a question has no answer of its own.
 #[derive(Drop)]
 pub enum Fault {
-    /// The library refuses the question, which is its answer.
+    /// The library refuses the question; the refusal is the answer.
     Refused(CronError),
     /// The question lacks a member that its operation needs, or has one of another form.
     Malformed,

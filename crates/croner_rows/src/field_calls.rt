@@ -19,7 +19,7 @@ pub enum Given {
     Readers([i64; 8], u64),
 }
 
-/// Makes a call of a field: a list of its name and what it is given.
+/// Makes a call of a field. The call is a list of its name and its arguments.
 pub fn make(alloc: Global, field: &mut CronComponent, call: &Value) -> Result<Given> {
     match items(call)? {
         [name] => ask(alloc, field, word(name)?),
@@ -108,7 +108,7 @@ pub fn hash_of<T: Hash>(value: &T) -> u64 {
     state.finish()
 }
 
-/// Whether two values are equal, compare so and are hashed alike.
+/// Whether two values are equal, compare as equal and have the same hash.
 pub fn are_alike<T: Ord + Hash>(one: &T, other: &T) -> bool {
     let is_equal = *one == *other && one.cmp(other).is_eq();
     is_equal && hash_of(one) == hash_of(other)
@@ -143,7 +143,7 @@ pub fn new_component(alloc: Global, new: &Value) -> Result<CronComponent> {
     Ok(CronComponent::new(alloc, min, max, features, offset)?)
 }
 
-/// A new field that has read the text of a question, where there is one; what a refused text leaves is kept.
+/// A new field that has read the text of a question, if there is one; what a refused text leaves is kept.
 pub fn read_field(alloc: Global, question: &Value) -> Result<CronComponent> {
     let mut field = new_component(alloc, member(question, "new")?)?;
     if let Some(text) = question.get("text") {
@@ -152,7 +152,7 @@ pub fn read_field(alloc: Global, question: &Value) -> Result<CronComponent> {
     Ok(field)
 }
 
-/// The answer of one call of a new field, and what it holds afterwards.
+/// The answer of one call of a new field, and what the field holds afterwards.
 pub fn call_of_field(caller: Caller<'_>, question: &Value) -> Result<Outcome> {
     let call = member(question, "call")?;
     let mut field = read_field(caller.alloc, question)?;
@@ -165,7 +165,7 @@ pub fn call_of_field(caller: Caller<'_>, question: &Value) -> Result<Outcome> {
     outcome
 }
 
-/// The answers of calls of a field, one after another, as a list; where one is refused, the refusal.
+/// The answers of calls of a field in turn, as a list; if one is refused, the refusal.
 pub fn calls_in_turn(alloc: Global, field: &mut CronComponent, question: &Value) -> Result<Value> {
     let mut answers = Vec::new(alloc);
     for call in list(question, "calls")? {

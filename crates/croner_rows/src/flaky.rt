@@ -1,4 +1,4 @@
-//! Jobs whose searches are refused so often before they are made.
+//! Jobs whose first searches are refused.
 ghost use Rattle.std.specs.Prelude.{◌≡◌, ◌≤ℤ◌, ◌-ℤ◌, IsTrue, false, pos};
 ghost use Rattle.croner.specs.Calm.{IsNear};
 ghost use Rattle.croner.specs.search.Premises.{IsSearchable};
@@ -13,14 +13,14 @@ use std::cell::Cell;
 /// How far a second that isn't held lies from a time at which a search may be refused.
 const SECONDS_PER_DAY: i64 = 86_400;
 
-/// A job whose first searches near an end of what its zone's backend holds are refused, as those of a backend that is reached at
-/// times and at others isn't. Where the second a day before or after isn't held, a search may be refused.
+/// A job whose first searches near an end of what its zone's backend holds are refused, as by a backend that is reachable only
+/// at times. A search is near an end if the second a day before or after isn't held.
 pub struct FlakyJob {
     cron: Cron,
     refusals: Cell<u32>,
 }
 
-// By hand, so that a function that lets a job go calls this one: its proof doesn't go through the fields at each exit.
+// By hand, so that a function that drops a job calls this one: its proof doesn't go through the fields at each exit.
 impl Drop for FlakyJob {
     fn drop(self) {
         let FlakyJob {
@@ -49,7 +49,7 @@ impl FlakyJob {
         self.cron.as_str()
     }
 
-    // Whether one more search is refused, which is one less from then on.
+    // Whether one more search is refused; it counts down.
     fn refuses(&self) -> bool {
         match self.refusals.get().checked_sub(1) {
             Some(left) => {

@@ -15,7 +15,7 @@ pub struct Job {
     pub cron: Cron,
 }
 
-// By hand, so that a function that lets a job go calls this one: its proof doesn't go through the fields at each exit.
+// By hand, so that a function that drops a job calls this one: its proof doesn't go through the fields at each exit.
 impl Drop for Job {
     fn drop(self) {
         let Job { cron: _ } = self;
@@ -46,7 +46,7 @@ impl Job {
     }
 }
 
-/// The text of a question. One that is a list has pieces, each with how often it stands there.
+/// The text of a question. A list is of pieces, each with how often it is repeated.
 pub fn whole_text(alloc: Global, question: &Value) -> Result<String> {
     let given = member(question, "text")?;
     match given.as_str() {
@@ -71,7 +71,7 @@ fn add_piece(text: &mut String, piece: &str, count: u32) -> Result<()> {
     Ok(())
 }
 
-/// The parser of the settings; those that a question leaves out are the parser's own.
+/// The parser of the settings; those that a question leaves out have the parser's defaults.
 pub fn read_parser(question: &Value) -> Result<CronParser> {
     let Some(settings) = question.get("settings") else {
         return Ok(CronParser::new());
@@ -88,7 +88,7 @@ pub fn read_parser(question: &Value) -> Result<CronParser> {
     Ok(builder.build())
 }
 
-// Which of three a field's presence is: `"optional"`, also where it is left out, `"required"` or `"disallowed"`.
+// Which of three values the presence of a field is: `"optional"` (also if it is left out), `"required"` or `"disallowed"`.
 fn presence<P: Copy>(settings: &Value, field: &str, of: [P; 3]) -> Result<P> {
     let [optional, required, disallowed] = of;
     match settings.get(field).map(Value::as_str) {

@@ -1,4 +1,4 @@
-//! What the tools of the tests share: questions as JSON values, the calls that they ask for, and what is shown of answers.
+//! What the tools of the tests share: questions as JSON values, the calls that they ask for, and how answers are shown.
 #![tactic(auto)]
 
 mod asked;
@@ -44,5 +44,5 @@ pub use subjects::{How, Run, Runs, Subject, Table};
 pub use texts::printed;
 pub use times::{bare, instants, time_and_job};
 
-/// What is asked, or why there is none.
+/// An answer, or why there is none.
 pub type Result<T, E = Fault> = std::result::Result<T, E>;

@@ -1,4 +1,4 @@
-//! Lines of questions one after another: what each answers, and how many differ from what is wanted.
+//! Lines of questions: the answer of each, and how many differ from the wanted one.
 
 use crate::shown::json;
 use crate::{Fault, Result};
@@ -10,14 +10,14 @@ use std::process::ExitCode;
 
 /// A tool that answers questions.
 pub trait Tool {
-    /// The answer of a question; one that the library refuses has the refusal as its answer.
+    /// The answer of a question; if the library refuses the question, the refusal is the answer.
     fn answer(&self, question: &Value) -> Result<Value>;
 
-    /// Whether an answer is what is wanted.
+    /// Whether an answer is the wanted one.
     fn is_wanted(&self, got: &Value, want: &Value) -> bool;
 }
 
-/// How many lines there were, how many of them differ or are malformed, and how many ask what is not known.
+/// How many lines there were, how many of them differ or are malformed, and how many ask for an unknown operation.
 #[derive(Clone, Copy, Default)]
 pub struct Summary {
     pub lines: u64,
@@ -26,7 +26,7 @@ pub struct Summary {
 }
 
 impl Summary {
-    /// Whether each line was asked and gave the answer that is wanted.
+    /// Whether each line was asked and gave the wanted answer.
     pub fn is_clean(&self) -> bool {
         self.differing == 0 && self.unsupported == 0
     }
@@ -47,9 +47,9 @@ impl Summary {
 #[derive(Drop)]
 enum Judged {
     Same,
-    // What was got, where nothing is wanted.
+    // The answer, if none is wanted.
     Unjudged(String),
-    // The answer differs: what was got and what is wanted.
+    // The answer differs: the answer and the wanted one.
     Differs(String),
     Malformed,
     Unsupported,
@@ -103,7 +103,7 @@ fn differing(alloc: Global, got: &Value, want: &Value) -> Result<Judged> {
     Ok(Judged::Differs(format!(in alloc; "got {got}, want {want}")?))
 }
 
-/// The status of a tool: success where it came to its end and all was well. What ended it before is told on standard error.
+/// The status of a tool: success if it came to its end and all was well. What ended it earlier is written to standard error.
 pub fn status(rt: &HostRuntime, ended: Result<bool>) -> io::Result<ExitCode> {
     match ended {
         Ok(true) => Ok(ExitCode::SUCCESS),

@@ -3,7 +3,7 @@
 use std::alloc::Global;
 use std::io::Write;
 
-/// Who makes the calls of a question: the allocator that they are given, and whether they stand between two marks on standard
+/// Who makes the calls of a question: the allocator for them, and whether there are marks before and after them on standard
 /// error, for a program that refuses their requests for memory.
 #[derive(Clone, Copy)]
 pub struct Caller<'r> {
@@ -29,12 +29,12 @@ impl<'r> Caller<'r> {
         self.mark("begin\n");
     }
 
-    /// From here on none is.
+    /// From here on no request is counted or refused.
     pub fn end(self) {
         self.mark("end\n");
     }
 
-    // A mark that can't be written is missed by whoever counts.
+    // If a mark can't be written, whoever counts will miss it.
     fn mark(self, text: &str) {
         if let Some(rt) = self.marking {
             let _ = rt.stderr().write_all(text.as_bytes());

@@ -25,7 +25,7 @@ pub fn flag(question: &Value, name: &str) -> Result<bool> {
     member(question, name)?.as_bool().ok_or(Fault::Malformed)
 }
 
-/// A yes or no that may be left out, which is no.
+/// A yes or no that may be left out, for no.
 pub fn switch(question: &Value, name: &str) -> Result<bool> {
     match question.get(name) {
         None => Ok(false),
@@ -44,7 +44,7 @@ pub fn items(value: &Value) -> Result<&[Value]> {
     Ok(items.as_slice())
 }
 
-/// The items of a list that has so many.
+/// The items of a list that has exactly that many.
 pub fn parts<const N: usize>(value: &Value) -> Result<&[Value; N]> {
     match items(value)?.try_into() {
         Ok(parts) => Ok(parts),

@@ -12,10 +12,10 @@ use std::alloc::Global;
 
 /// A kind of time whose values are shown.
 pub trait Moment: CronDateTime {
-    /// The seconds since 1970-01-01T00:00:00: on the wall clock for civil time, and else in UTC.
+    /// The seconds since 1970-01-01T00:00:00: on the wall clock for civil time, otherwise in UTC.
     fn second(&self) -> i64;
 
-    /// A text in civil time, and else the second.
+    /// A text in civil time, otherwise the second.
     fn shown(&self, _alloc: Global) -> Result<Value> {
         Ok(Value::from(self.second()))
     }

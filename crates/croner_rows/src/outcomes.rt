@@ -23,7 +23,7 @@ impl Answer {
         }
     }
 
-    /// The answer as a text; one that is a text is itself, without quotes.
+    /// The answer as a text; a text is given as it is, without quotes.
     pub fn into_text(self, alloc: Global) -> Result<String> {
         match self {
             Answer::Value(Value::String(text)) | Answer::Text(text) => Ok(text),
@@ -34,13 +34,13 @@ impl Answer {
 
 /// What the calls of a question gave.
 pub struct Outcome {
-    /// What they answered, or why they were refused.
+    /// The answer, or why the calls were refused.
     answer: Result<Answer>,
-    /// What they were lent, afterwards, or what comes after them.
+    /// What was lent to the calls, as it is afterwards, or what comes after them.
     after: String,
 }
 
-// By hand, so that a function that lets an outcome go calls this one: its proof doesn't go through the parts at each exit.
+// By hand, so that a function that drops an outcome calls this one: its proof doesn't go through the parts at each exit.
 impl Drop for Outcome {
     fn drop(self) {
         let Outcome {
@@ -57,18 +57,18 @@ impl Outcome {
         Ok(Outcome { answer, after })
     }
 
-    /// An answer, where nothing was lent.
+    /// An answer of calls to which nothing was lent.
     pub fn of(alloc: Global, answer: Result<Answer>) -> Outcome {
         let after = String::new(alloc);
         Outcome { answer, after }
     }
 
-    /// An answer that is a JSON value, where nothing was lent.
+    /// An answer that is a JSON value, of calls to which nothing was lent.
     pub fn of_value(alloc: Global, answer: Value) -> Outcome {
         Outcome::of(alloc, Ok(Answer::Value(answer)))
     }
 
-    /// An answer that is a text, where nothing was lent.
+    /// An answer that is a text, of calls to which nothing was lent.
     pub fn of_text(alloc: Global, answer: Result<String, AllocError>) -> Result<Outcome> {
         let answer = answer?;
         Ok(Outcome::of(alloc, Ok(Answer::Text(answer))))
@@ -80,7 +80,7 @@ impl Outcome {
         answer?.into_value(alloc)
     }
 
-    /// The answer as a text, which is its name where it is a refusal, and what was lent.
+    /// The answer as a text, or the name of the refusal; and what was lent.
     pub fn into_texts(self, alloc: Global) -> Result<(String, String)> {
         let Outcome { answer, after } = self;
         Ok((told(alloc, answer)?, after))

@@ -21,7 +21,7 @@ pub fn time_component(question: &Value) -> Result<TimeComponent> {
     }
 }
 
-// The answer of a call, which is given members of the question; one that is given what no month has is malformed.
+// The answer of a call with members of the question as arguments; with arguments that no month has the question is malformed.
 fn made(pattern: &CronPattern, question: &Value, op: &str) -> Result<Value> {
     match op {
         "find" => found(pattern, question),
@@ -85,7 +85,7 @@ pub fn field_at<'p>(pattern: &'p mut CronPattern, name: &str) -> Result<&'p mut 
     }
 }
 
-/// A call of the pattern of a text, one of whose fields is emptied where the question names it; and what it holds afterwards.
+/// A call of the pattern of a text, with one of its fields emptied if the question names it; and what the pattern holds afterwards.
 pub fn call_of_pattern(caller: Caller<'_>, question: &Value, op: &str) -> Result<Outcome> {
     let Cron { mut pattern } = Job::read(caller.alloc, question)?.into_cron();
     let outcome = called(caller, &mut pattern, question, op);

@@ -1,4 +1,4 @@
-//! Schedulers: calls one after another, over clocks of one kind.
+//! Schedulers: calls in turn, over clocks of one kind.
 
 use crate::{Caller, Fault, FlakyJob, Result, items, number, number_at, parts, shown, word};
 use croner::Clocked;
@@ -8,7 +8,7 @@ use croner_scheduler::{
 use serde_json::Value;
 use std::alloc::{AllocError, Global};
 
-/// What the calls of a scheduler name by its place: patterns, and a time on each clock.
+/// What the calls of a scheduler refer to by index: patterns, and a time on each clock.
 #[derive(Drop)]
 pub struct Named<'q, T: Clocked> {
     pub patterns: &'q [Value],
@@ -31,7 +31,7 @@ impl<'q, T: Clocked> Named<'q, T> {
     }
 }
 
-/// The scheduler of a question before its calls: without jobs, its first id the member `first_id`, or 0.
+/// The scheduler of a question before its calls: without jobs, with the member `first_id`, or 0, as its first id.
 pub fn new_scheduler<T: Clocked>(
     alloc: Global,
     question: &Value,
@@ -45,7 +45,7 @@ pub fn new_scheduler<T: Clocked>(
     }
 }
 
-/// The answers of calls of a scheduler, one after another.
+/// The answers of calls of a scheduler in turn.
 pub fn call_in_turn<T: Clocked>(
     caller: Caller<'_>,
     scheduler: &mut Scheduler<FlakyJob, T>,
@@ -59,7 +59,7 @@ pub fn call_in_turn<T: Clocked>(
     Ok(Value::Array(answers))
 }
 
-/// What a call of a scheduler answers. The call is a list: its name, and what it is given.
+/// The answer of a call of a scheduler. The call is a list of its name and its arguments.
 pub fn call_scheduler<T: Clocked>(
     caller: Caller<'_>,
     scheduler: &mut Scheduler<FlakyJob, T>,
@@ -246,8 +246,8 @@ fn next_wake_up<T: Clocked>(caller: Caller<'_>, scheduler: &Scheduler<FlakyJob, 
     }
 }
 
-/// Each job of a scheduler in the order of the ids: its id, the second of its position, and that of its next run; null in its place where
-/// none is left, and where the job is stopped, why.
+/// Each job of a scheduler in the order of the ids: its id, the second of its position, and that of its next run. Instead of the last it
+/// is null if no run is left, or why the job is stopped.
 pub fn standings<T: Clocked>(alloc: Global, scheduler: &Scheduler<FlakyJob, T>) -> Result<Value> {
     let mut standings = Vec::new(alloc);
     for (id, waiting) in scheduler.iter() {

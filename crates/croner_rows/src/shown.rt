@@ -36,7 +36,7 @@ pub fn refusal(error: &CronError) -> &'static str {
     }
 }
 
-/// A refusal as a JSON value. Want of memory is none, but a fault.
+/// A refusal as a JSON value. Lack of memory isn't a refusal, but a fault.
 pub fn refused(alloc: Global, error: &CronError) -> Result<Value> {
     match error {
         CronError::OutOfMemory => Err(Fault::OutOfMemory),
@@ -75,7 +75,7 @@ pub fn json(alloc: Global, text: &[u8]) -> Result<Value> {
     }
 }
 
-/// The JSON value of a text that was put together.
+/// The JSON value of a text that was built.
 pub fn object(alloc: Global, text: Result<String, AllocError>) -> Result<Value> {
     let text = text?;
     json(alloc, text.as_bytes())
@@ -107,7 +107,7 @@ pub fn times<T: Moment>(alloc: Global, times: &[T]) -> Result<Value> {
     Ok(Value::Array(list))
 }
 
-/// Puts an item behind the others of a text, with a comma between.
+/// Appends an item to the others of a text, with a comma between.
 pub fn add_item(list: &mut String, item: &str) -> Result<(), AllocError> {
     if !list.is_empty() {
         list.push_str(",")?;
@@ -115,13 +115,13 @@ pub fn add_item(list: &mut String, item: &str) -> Result<(), AllocError> {
     list.push_str(item)
 }
 
-// Puts a member behind the others: its name and its value.
+// Appends a member to the others: its name and its value.
 fn add_member(alloc: Global, members: &mut String, name: &str, value: &str) -> Result<()> {
     let member = format!(in alloc; "\"{name}\":{value}")?;
     Ok(add_item(members, member.as_str())?)
 }
 
-// Ascending values as the list of their longest runs, each its first and its last value.
+// Ascending values as the list of their longest runs, each by its first and its last value.
 fn spans(alloc: Global, values: &[u16]) -> Result<String> {
     let mut list = String::new(alloc);
     let mut open: Option<(u16, u16)> = None;

@@ -15,7 +15,7 @@ pub enum Subject<'j> {
     Table(&'j CronTable),
 }
 
-/// A run, and of a table the places of the jobs that run then.
+/// A run, and for a table the places of the jobs that run then.
 #[derive(Drop)]
 pub struct Run<T> {
     pub instant: T,
@@ -33,7 +33,7 @@ impl<T: Moment> Run<T> {
         Run::new(instant, Some(places))
     }
 
-    /// The instant, and behind it the places where there are any, as a list.
+    /// The instant, and after it the places where there are any, as a list.
     pub fn shown(&self, alloc: Global) -> Result<Value> {
         let instant = self.instant.shown(alloc)?;
         match &self.places {
@@ -95,7 +95,7 @@ impl How {
         }
     }
 
-    /// The search whose answer is the first item: its direction, and whether it counts its start.
+    /// The search whose answer is the first item: its direction, and whether it includes its start.
     pub fn search(self) -> (Direction, bool) {
         match self {
             How::From(direction) => (direction, true),
@@ -154,7 +154,7 @@ impl<'j, T: Moment> Runs<'j, T> {
         }
     }
 
-    /// The fault that is kept.
+    /// The fault that the iterator keeps.
     pub fn fault(&self) -> Option<&CronError> {
         match self {
             Runs::OfJob(runs) => runs.fault(),
@@ -162,7 +162,7 @@ impl<'j, T: Moment> Runs<'j, T> {
         }
     }
 
-    /// The name of the fault that is kept.
+    /// The name of the fault that the iterator keeps.
     pub fn fault_name(&self) -> &'static str {
         match self.fault() {
             Some(error) => shown::refusal(error),
@@ -170,12 +170,12 @@ impl<'j, T: Moment> Runs<'j, T> {
         }
     }
 
-    /// Whether the fault that is kept is want of memory.
+    /// Whether the fault that the iterator keeps is lack of memory.
     pub fn lacks_memory(&self) -> bool {
         matches!(self.fault(), Some(CronError::OutOfMemory))
     }
 
-    /// The answer of one call: where a fault is kept behind it, the name of the fault, and else the item, or null for None. Want
+    /// The answer of one call: where a fault is kept after it, the name of the fault, and else the item, or null for None. Lack
     /// of memory is a fault.
     pub fn item(&mut self, alloc: Global) -> Result<Value> {
         let run = self.next();
@@ -211,7 +211,7 @@ impl Table {
         Ok(Table { jobs })
     }
 
-    /// The change of a question, and the job that comes out.
+    /// Makes the change of a question, and gives the job that comes out.
     pub fn change(&mut self, caller: Caller<'_>, question: &Value) -> Result<Option<Job>> {
         let (change, place) = (text(question, "change")?, number_at(question, "place")?);
         let by = match question.get("by") {

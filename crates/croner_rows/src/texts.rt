@@ -10,7 +10,7 @@ use croner_backends::{OwnYears, TwelveHours};
 use serde_json::Value;
 use std::alloc::Global;
 
-/// What the text of a question is read as.
+/// The job that the text of a question is read as.
 pub fn parse(caller: Caller<'_>, question: &Value) -> Result<Outcome> {
     let (parser, text) = (read_parser(question)?, whole_text(caller.alloc, question)?);
     caller.begin();
@@ -25,7 +25,7 @@ pub fn held(alloc: Global, read: Result<Cron, CronError>) -> Result<Answer> {
     Ok(Answer::Text(shown::job(alloc, &job.cron)?))
 }
 
-/// What the JSON value of a question is read as, and the value afterwards.
+/// The job that the JSON value of a question is read as, and the value afterwards.
 pub fn from_json(caller: Caller<'_>, question: &Value) -> Result<Outcome> {
     let value = member(question, "value")?;
     caller.begin();
@@ -39,7 +39,7 @@ pub fn printed(alloc: Global, value: &Value) -> Result<String> {
     Ok(value.to_string(alloc)?)
 }
 
-/// The text of a pattern that is made of it, and not parsed.
+/// The text of a pattern that is made with it, but not parsed.
 pub fn unparsed(caller: Caller<'_>, question: &Value) -> Result<Outcome> {
     let text = text(question, "text")?;
     caller.begin();

@@ -1,4 +1,4 @@
-//! Calls of a time: whether a job names it, which instants show a second, and the instant so many seconds on.
+//! Calls of a time: whether a job names it, which instants show a second, and the instant a number of seconds later.
 
 use crate::{
     Answer, Caller, Job, Moment, Outcome, OverTime, Result, civil, civil_value, number_at,
@@ -37,7 +37,7 @@ pub fn bare<T: Moment>(alloc: Global, time: &T) -> Result<String> {
     Answer::Value(time.shown(alloc)?).into_text(alloc)
 }
 
-/// Whether a job names the start of a question, or where there is none, its date and time `at` in civil time.
+/// Whether a job names the start of a question, or, if there is none, its date and time `at` in civil time.
 pub fn matching(caller: Caller<'_>, question: &Value) -> Result<Outcome> {
     let job = Job::read(caller.alloc, question)?;
     match question.get("at") {
@@ -108,7 +108,7 @@ fn sum_found<T: Moment>(alloc: Global, sum: Result<Option<T>, CronError>) -> Res
     }
 }
 
-/// The instant so many seconds on, or null, and the start of the question afterwards.
+/// The instant a number of seconds later, or null, and the start of the question afterwards.
 pub fn add(caller: Caller<'_>, question: &Value) -> Result<Outcome> {
     let seconds = number_at(question, "seconds")?;
     over_time(caller, question, &Adding(seconds))

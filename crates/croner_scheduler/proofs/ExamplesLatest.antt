@@ -7,7 +7,7 @@ use Rattle.croner_scheduler.specs.declared.waiting.Next.TheVariants.{Run, Over}
 use Rattle.croner_scheduler.specs.Private.Latest.{due_run, last_of_run, last_of_refusal}
 
 module _ (z : Zone) where
-  -- a run at now is due, one behind it isn't, and what is over has none
+  -- a run at now is due, one after it isn't, and what is over has none
   a_run_at_now : due_run (λ m. m) (pos 9) (Run (at_instant z (pos 9))) ≡ Some (at_instant z (pos 9))
   a_run_at_now = refl
 
@@ -17,7 +17,8 @@ module _ (z : Zone) where
   no_run : due_run {T = Moment} (λ m. m) (pos 9) Over ≡ None
   no_run = refl
 
-  -- the next run is at 3 and now is 9: a run at 8 is the last one; one at 3 is the next run; one before it, or behind now, comes of no calm zone
+  -- the next run is at 3 and now is 9: a run at 8 is the last one; one at 3 is the next run; one before it, or after now, comes of no calm
+  -- zone
   a_later_run : last_of_run (λ m. m) (at_instant z (pos 3)) (at_instant z (pos 9)) (at_instant z (pos 8)) ≡ Later (at_instant z (pos 8))
   a_later_run = refl
 

@@ -58,7 +58,7 @@ module _ {J T : Type 0} (runs : J → Zone → ℤ → Type 0) (moment : T → M
       next_before (runs w.job) moment (moment w.position) fits.whole calm w.next fits.next goes j seen.0.0 seen.0.1 seen.1
 
   module _ (o : Option (Waiting J T)) (fits : ∥ IfSome o (Fits runs moment) ∥₁) where
-    -- behind the first turn
+    -- after the first turn
     pub behind : (k l : ℕ) (i : ℤ) → ((s : ℤ) → is_awaited_at moment s o ≡ true → (i ≤ℤ s) × (s ≡ i → k ≤ l))
         → IfSome (option_map (standing_of moment) o) (ComesAfter runs k i l)
     behind k l i first = behind_by o fits first

@@ -11,7 +11,7 @@ use Rattle.croner_scheduler.specs.Kept.{StopsAt, FitsNext}
 use Rattle.croner_scheduler.specs.declared.waiting.Stop.TheVariants.{Refused}
 use Rattle.croner_scheduler.specs.Private.Steps.{next_of_run, next_of_refusal}
 
--- a refusal that is neither the limit nor want of memory stops a job
+-- a refusal that is neither the limit nor lack of memory stops a job
 pub stops_by : (direction : Direction) (runs : Zone → ℤ → Type 0) (m : Moment) (lack : Bool) (e : CronError) → IsRunRefused lack direction runs m e
     → ¬ (e ≡ TimeSearchLimitExceeded) → ¬ (e ≡ OutOfMemory) → StopsAt m (Refused e)
 stops_by direction runs m lack e is limit memory = (λ h. apart (is.promised h), kind is.kind)

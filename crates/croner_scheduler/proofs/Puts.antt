@@ -45,7 +45,7 @@ module _ {T : Type 0} (moment : T → Moment) (id : ℕ) (s : ℤ) (k : ℕ) whe
   apart_by Over m apart e f = false≢true e
   apart_by (Stopped stop) m apart e f = false≢true e
 
-  -- the turn of the one is taken out behind that of the other, where the two differ
+  -- the turn of the one is taken out after that of the other, where the two differ
   pub taken_behind : (n m : Next T) (has : Bool) → is_same_turn moment n m ≡ false
       → cond (is_next_turn moment n id s k) false (cond (is_next_turn moment m id s k) true has)
       ≡ cond (is_next_turn moment m id s k) true (cond (is_next_turn moment n id s k) false has)

@@ -64,7 +64,7 @@ abbrev pub IsWakeUp : {J : Type 0} → (J → Zone → ℤ → Type 0) → Held 
 IsWakeUp runs h (Some i) = (k : ℕ) × IsNearest runs h (Some (record { id = k; second = i }))
 IsWakeUp runs h None = IsNearest runs h None
 
--- a job that stands at that second of its zone, whole; and where it is stopped, the reason holds there
+-- a job that stands at that whole second of its zone; and if it is stopped, the reason holds there
 pub record StandsAt {J : Type 0} (job : J) (zone : Zone) (i : ℤ) (s : Standing J) : Type 0 where
   pub job_is : s.job ≡ job
   pub zone_is : s.position.zone ≡ zone
@@ -91,8 +91,8 @@ pub record MovesTo {J : Type 0} (h : Held J) (k : ℕ) (i : ℤ) (h' : Held J) :
 abbrev pub KeepsLater : {J : Type 0} → ℕ → ℤ → Held J → Standing J → Type 0
 KeepsLater k now h' s = IfSome s.next (λ i. now <ℤ i → IsSomeAnd (h'.jobs k) (λ s'. s'.next ≡ Some i))
 
--- the position of the job k moves on to now, a second that its zone holds; or it stands there already or later, there is no such job, or its
--- zone doesn't hold that second
+-- the position of the job k moves on to now, a second that its zone holds; or it stands there already or later, there is no such job, or
+-- its zone doesn't hold that second
 abbrev pub SkipsTo : {J : Type 0} → ℕ → ℤ → Held J → Held J → Skip → Type 0
 SkipsTo k now h h' (Moved b) =
     IsSomeAnd (h.jobs k) (λ s. (s.position.instant <ℤ now) × (s.position.zone.holds now ≡ true) × KeepsLater k now h' s) × MovesTo h k now h'
@@ -108,7 +108,7 @@ SkipTellsStop k h AlreadyThere = ⊤
 SkipTellsStop k h NoJob = ⊤
 SkipTellsStop k h NotHeld = ⊤
 
--- a job that is to be moved on to now, in whose zone that second is held, without a next run that is later
+-- a job that is to be moved on to now, a second that its zone holds, and has no later next run
 abbrev pub IsToMove : {J : Type 0} → ℤ → Standing J → Type 0
 IsToMove now s = (s.position.instant <ℤ now) × (s.position.zone.holds now ≡ true) × IfSome s.next (λ i. i ≤ℤ now)
 
@@ -124,7 +124,8 @@ AgainTellsStop k h GoesOn = TellsStop h k false
 AgainTellsStop k h StillStopped = TellsStop h k true
 AgainTellsStop k h NotStopped = ⊤
 
--- the job k was stopped, and may from then on be stopped otherwise or go on, from where it stands; or there is no such job, or it isn't stopped
+-- the job k was stopped, and may from then on be stopped otherwise or go on, from where it stands; or there is no such job, or it isn't
+-- stopped
 abbrev pub AsksAgain : {J : Type 0} → ℕ → Held J → Held J → Bool → Type 0
 AsksAgain k h h' true = IsSomeAnd (h.jobs k) (λ s. IsSome s.stop × MovesTo h k s.position.instant h')
 AsksAgain k h h' false = IfSome (h.jobs k) (λ s. s.stop ≡ None) × IsSame h h'
@@ -157,8 +158,8 @@ HasDueRun now s = IsSomeAnd s.next (λ n. n ≤ℤ now)
 abbrev pub IsToTake : {J : Type 0} → ℤ → Standing J → Type 0
 IsToTake now s = HasDueRun now s × (s.position.zone.holds now ≡ true)
 
--- the last run of the job k that is due is given, and it stands there from then on; or nothing of it is due, there is no such job, its zone doesn't
--- hold now, or no search backward from there is promised and this one was refused
+-- the last run of the job k due at now is given, and the job stands there from then on; or nothing of it is due, there is no such job, its
+-- zone doesn't hold now, or the search backward from now, which isn't promised there, was refused
 abbrev pub TakesLatest : {J : Type 0} → (J → Zone → ℤ → Type 0) → ℕ → ℤ → Held J → Held J → Latest → Type 0
 TakesLatest runs k now h h' (latest.Given i b) = IsSomeAnd (h.jobs k) (λ s. IsLastDue runs now i s × (s.position.zone.holds now ≡ true)) × MovesTo h k i h'
 TakesLatest runs k now h h' latest.NothingDue = IsSomeAnd (h.jobs k) (λ s. IsNotDue runs now s × IfSome s.next (λ n. now <ℤ n)) × IsSame h h'
@@ -188,7 +189,7 @@ pub record IsAdded {J : Type 0} (job : J) (position : Moment) (h h' : Held J) (i
 abbrev pub IsHandedBack : {J T : Type 0} → J → T → NotAdded J T → Type 0
 IsHandedBack job position refused = (refused.job ≡ job) × (refused.position ≡ position)
 
--- why a job isn't added: for want of memory, and then an id is left and the whole second of the position is held; since no id is left; or
+-- why a job isn't added: for lack of memory, and then an id is left and the whole second of the position is held; since no id is left; or
 -- since that second isn't held
 abbrev pub IsAddRefused : {J : Type 0} → Moment → Held J → AddError → Type 0
 IsAddRefused position h OutOfMemory = ¬ (h.next_id ≡ 2 ^ 64 - 1) × (position.zone.holds position.instant ≡ true)
@@ -205,7 +206,7 @@ second_before m = at_instant m.zone (m.instant -ℤ pos 1)
 abbrev pub HasNoneBefore : Moment → Type 0
 HasNoneBefore m = (m.zone.holds (m.instant -ℤ pos 1) ≡ false) ⊎ (m.instant ≡ neg_ℤ (pos (2 ^ 63)))
 
--- why a job isn't added from a start on: for want of memory, and then an id is left and the second before is held; since no id is left; or
+-- why a job isn't added from a start on: for lack of memory, and then an id is left and the second before is held; since no id is left; or
 -- since that second isn't held
 abbrev pub IsAddFromRefused : {J : Type 0} → Moment → Held J → AddError → Type 0
 IsAddFromRefused start h OutOfMemory = ¬ (h.next_id ≡ 2 ^ 64 - 1) × (start.zone.holds (start.instant -ℤ pos 1) ≡ true)
@@ -229,8 +230,8 @@ pub record IsPut {J : Type 0} (job : J) (position : Moment) (h : Held J) (k : �
 abbrev pub Replaces : {J T : Type 0} → (T → Moment) → ℕ → J → Moment → Held J → Held J → J × T → Type 0
 Replaces moment k job position h h' given = IsGivenBack moment (h.jobs k) (Some given) × IsPut job position h k h'
 
--- why no job is put in the place of the one of the id k: since there is none; or there is one, and it is for want of memory, and then the whole
--- second of the position is held, or since that second isn't held
+-- why no job is put in the place of the one of the id k: there is none; or there is one, and memory is lacking while the whole second of
+-- the position is held, or that second isn't held
 abbrev pub IsPutRefused : {J : Type 0} → ℕ → Moment → Held J → AddError → Type 0
 IsPutRefused k position h OutOfMemory = IsSome (h.jobs k) × (position.zone.holds position.instant ≡ true)
 IsPutRefused k position h NoIdLeft = ⊥

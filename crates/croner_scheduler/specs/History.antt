@@ -101,8 +101,8 @@ pub record IsGivenBetween {J : Type 0} (runs : J → Zone → ℤ → Type 0) (s
   pub are_runs : IsCalm s.position.zone → All (λ i. ∥ runs s.job s.position.zone i ∥₁) items
   pub either : IsCalm s.position.zone → (i : ℤ) → Left runs s i → Contains items i ⊎ passed i ⊎ Left runs s' i
 
--- whatever calls are made, of a job that is neither removed nor replaced the runs are given so, and it stands where the last of the calls that
--- moved it put it
+-- whatever calls are made, a job that is neither removed nor replaced gives its runs so, and stands where the last call that moved it put
+-- it
 abbrev pub GivesInTurn : {J : Type 0} → (J → Zone → ℤ → Type 0) → Held J → Type 0
 GivesInTurn {J} runs h = (calls : List (Call J)) (h' : Held J) → MakesInTurn runs calls h h' → (k : ℕ) (s : Standing J) → h.jobs k ≡ Some s → All (Stays k) calls
     → (s' : Standing J) × (h'.jobs k ≡ Some s') × IsGivenBetween runs s s' (given k calls) (IsPassedOver k s.position.instant calls)
@@ -112,8 +112,8 @@ GivesInTurn {J} runs h = (calls : List (Call J)) (h' : Held J) → MakesInTurn r
 abbrev pub AreDoneWith : {J : Type 0} → (J → Zone → ℤ → Type 0) → ℕ → Standing J → List (Call J) → (ℤ → Type 0) → Type 0
 AreDoneWith runs k s calls P = (i : ℤ) → Seen runs s i → P i → Contains (given k calls) i ⊎ IsPassedOver k s.position.instant calls i
 
--- none is kept back: done with are all up to now where nothing is due then, all that come before what is given next, by their instants and at one
--- instant by their ids, all before the wake-up, and all where there is no wake-up
+-- none is kept back: all up to now are done with if nothing is due then; so are all that come before what is given next, by instant and
+-- then by id, all before the wake-up, and all if there is no wake-up
 pub record KeepsNoneBack {J : Type 0} (runs : J → Zone → ℤ → Type 0) (k : ℕ) (s : Standing J) (calls : List (Call J)) (h' : Held J) : Type 0 where
   pub due : (now : ℤ) (after : Held J) → TakesDue runs now h' after None → AreDoneWith runs k s calls (λ i. i ≤ℤ now)
   pub first : (now : ℤ) (d : Turn) (after : Held J) → TakesDue runs now h' after (Some d)
@@ -125,8 +125,8 @@ pub record KeepsNoneBack {J : Type 0} (runs : J → Zone → ℤ → Type 0) (k 
 abbrev pub CannotStop : {J : Type 0} → Standing J → Standing J → Type 0
 CannotStop s s' = IfSome s.stop (StopsAt s.position) × IsSearchable s'.position
 
--- whatever calls are made, of a job in a calm zone that is neither removed nor replaced, and isn't stopped after them or can't be, none is kept
--- back
+-- whatever calls are made, none is kept back of a job in a calm zone that is neither removed nor replaced, and isn't stopped after them or
+-- can't be
 abbrev pub NeverKeepsBack : {J : Type 0} → (J → Zone → ℤ → Type 0) → Held J → Type 0
 NeverKeepsBack {J} runs h = (calls : List (Call J)) (h' : Held J) → MakesInTurn runs calls h h' → (k : ℕ) (s : Standing J) → h.jobs k ≡ Some s → All (Stays k) calls
     → IsCalm s.position.zone → IfSome (h'.jobs k) (λ s'. (s'.stop ≡ None) ⊎ CannotStop s s' → KeepsNoneBack runs k s calls h')

@@ -1,4 +1,4 @@
-//! What becomes of a job that is to be added, or put in another's place.
+//! The results of adding a job, or of putting it in another's place.
 
 ghost use Rattle.std.specs.Prelude.{◌≡◌};
 ghost use Rattle.croner_scheduler.specs.Calls.{IsHandedBack};
@@ -12,15 +12,15 @@ use std::fmt;
 /// Why a job isn't added, or put in another's place.
 #[derive(Debug, Drop)]
 pub enum AddError {
-    /// Memory was asked for and not found.
+    /// An allocation failed.
     OutOfMemory,
     /// No id is left: the next one would be 18446744073709551615 (2^64 - 1), which is never given.
     NoIdLeft,
-    /// The whole second of the position isn't held.
+    /// The job's zone doesn't hold the whole second of the position.
     PositionNotHeld,
-    /// The second before the start isn't held ([`Scheduler::add_from`](crate::Scheduler::add_from) alone).
+    /// The job's zone doesn't hold the second before the start (only from [`Scheduler::add_from`](crate::Scheduler::add_from)).
     SecondBeforeNotHeld,
-    /// No job has the id ([`Scheduler::replace`](crate::Scheduler::replace) alone).
+    /// No job has the id (only from [`Scheduler::replace`](crate::Scheduler::replace)).
     NoJob,
 }
 
@@ -33,25 +33,25 @@ pub struct Added {
     pub is_stopped: bool,
 }
 
-/// What stood in the place of a job that was put there.
+/// The job that was replaced.
 #[derive(Drop)]
 pub struct Replaced<J, T> {
-    /// The job that stood there.
+    /// The job.
     pub job: J,
     /// Its position.
     pub position: T,
-    /// Whether the job that was put in its place is stopped.
+    /// Whether the new job is stopped.
     pub is_stopped: bool,
 }
 
-/// A job that wasn't added or put in another's place, as it was handed over.
+/// A job that wasn't added or put in another's place, handed back unchanged.
 #[derive(Drop)]
 pub struct NotAdded<J, T> {
     /// The job.
     pub job: J,
-    /// The position that was handed over with it.
+    /// The position that it was given.
     pub position: T,
-    /// Why it wasn't.
+    /// The reason.
     pub error: AddError,
 }
 
@@ -87,7 +87,7 @@ pub(crate) fn refused<J, T>(job: J, position: T, error: AddError) -> NotAdded<J,
     }
 }
 
-// A job that isn't for want of memory, with the position that was handed over with it.
+// A job that isn't added for lack of memory, with the position that it was given.
 pub(crate) fn lacking<J, T: Drop>(waiting: Waiting<J, T>, position: T) -> NotAdded<J, T>
     ensures handed_back { IsHandedBack waiting.job position result }
     ensures error { result.error ≡ OutOfMemory }

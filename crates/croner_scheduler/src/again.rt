@@ -1,12 +1,12 @@
-//! What becomes of a job that is searched again.
+//! The result of searching a job again.
 
-/// What became of a job that was to be searched again ([`Scheduler::ask_again`](crate::Scheduler::ask_again)).
+/// The result of searching a job again ([`Scheduler::ask_again`](crate::Scheduler::ask_again)).
 #[derive(Debug, Clone, Copy, PartialEq, Eq)]
 pub enum Again {
-    /// It was stopped and isn't any more.
+    /// It was stopped, and no longer is.
     GoesOn,
-    /// It was stopped and still is, be it for another reason.
+    /// It was stopped and still is, maybe for another reason.
     StillStopped,
-    /// No job that is stopped has the id.
+    /// No stopped job has the id.
     NotStopped,
 }

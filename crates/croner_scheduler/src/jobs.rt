@@ -72,7 +72,7 @@ pub(crate) fn renew<J, T: Drop>(jobs: &mut BTreeMap<u64, Waiting<J, T>>, id: u64
     }
 }
 
-// Another job has the place of one, of which it gives the job and the position; or that other one, where none stands there.
+// Puts a job in the place of another, and returns the other with its position; or returns the new job, if there is none to replace.
 pub(crate) fn exchange<J, T: Drop>(
     jobs: &mut BTreeMap<u64, Waiting<J, T>>,
     id: u64,

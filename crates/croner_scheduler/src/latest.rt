@@ -1,4 +1,4 @@
-//! The last of a job's runs that are due.
+//! The last due run of a job.
 ghost use Rattle.std.specs.Prelude.{◌≡◌, IfOk};
 ghost use Rattle.croner_scheduler.specs.Private.Latest.{last_of_run, last_of_refusal, FitsLast};
 
@@ -6,17 +6,17 @@ use croner::errors::CronError;
 use croner::{Clocked, Recurring};
 use std::alloc::AllocError;
 
-/// What became of a call for the last due run of a job ([`Scheduler::take_latest_due`](crate::Scheduler::take_latest_due)).
+/// The result of a call for the last due run of a job ([`Scheduler::take_latest_due`](crate::Scheduler::take_latest_due)).
 #[derive(Debug, Drop)]
 pub enum Latest {
-    /// The last run that was due. The job stands there from now on.
+    /// The last due run. It is the job's position from now on.
     Given {
-        /// Its whole second.
+        /// The run's whole second.
         second: i64,
-        /// Whether its job is stopped.
+        /// Whether the job is stopped.
         is_stopped: bool,
     },
-    /// No run of it is due.
+    /// No run of the job is due.
     NothingDue,
     /// No job has the id.
     NoJob,
@@ -26,7 +26,7 @@ pub enum Latest {
     Refused(CronError),
 }
 
-// What a search backward says of the last run of a job.
+// What a search backward finds as the last run of a job.
 #[derive(Debug, Drop)]
 pub(crate) enum Last<T> {
     // It is this one, later than the next run.
@@ -52,7 +52,7 @@ pub(crate) fn last_of<J: Recurring<T>, T: Clocked>(
     }
 }
 
-// What a run that was found is, where another is the next one.
+// How a run that was found compares with the next run.
 fn last_of_run<T: Clocked>(next: &T, until: &T, found: T) -> Last<T>
     ensures { result ≡ last_of_run T.moment next.now until.now found }
 {

@@ -1,4 +1,4 @@
-//! Jobs that recur, under ids, and which of their runs is the next to be given: a scheduler without a clock of its own.
+//! A scheduler without a clock of its own: recurring jobs under ids, and which of their runs comes next.
 #![tactic(auto)]
 
 mod add;
@@ -14,9 +14,14 @@ mod waiting;
 
 pub use add::{AddError, Added, NotAdded, Replaced};
 pub use again::Again;
+use croner::CompactCron;
 pub use latest::Latest;
 pub use scheduler::Scheduler;
 pub use skip::Skip;
 pub use stops::Stops;
 pub use turns::Due;
 pub use waiting::{Stop, Waiting};
+
+/// A scheduler of jobs in few words, for those who have many: a `Cron` takes 872 bytes in it and 1,264 more on the heap, a
+/// [`CompactCron`] 64.
+pub type CompactScheduler<T> = Scheduler<CompactCron, T>;

@@ -19,23 +19,23 @@ use croner::{Clocked, Recurring};
 use std::alloc::{AllocError, Global};
 use std::collections::{BTreeMap, BTreeSet, btree_map};
 
-/// Jobs under ids, each with a position: the moment up to which its runs are done with.
+/// Jobs under ids, each with a position: the moment up to which its runs are done.
 ///
-/// It has no clock of its own, starts nothing and waits for nothing. A program asks [`next_wake_up`](Scheduler::next_wake_up) when to
-/// wake up, and then takes what is due, run by run, until nothing is. Each run that is taken moves its job's position to it, so this ends.
-/// What a clock, a crash or a restart does is up to the program: it tells the time, and may keep the positions
-/// ([`iter`](Scheduler::iter)) to add its jobs again where they stood.
+/// It has no clock of its own, starts nothing and waits for nothing. A program asks [`next_wake_up`](Scheduler::next_wake_up) when to wake
+/// up, and then takes the due runs one by one, until none is due. Each run taken becomes its job's position, so this ends. Clocks, crashes
+/// and restarts are up to the program: it passes the time, and may save the positions ([`iter`](Scheduler::iter)) to add its jobs again
+/// there.
 ///
 /// In a calm zone ([`CronDateTime`](croner::CronDateTime) says when a zone is calm) the runs of a job after its position are given in
-/// order, each once and none left out between but those that [`skip_to`](Scheduler::skip_to) or
-/// [`take_latest_due`](Scheduler::take_latest_due) passes over, up to the end of the years that are searched; after
-/// [`replace`](Scheduler::replace) they are those of the other job after its position (`laws` says it of every list of calls). In another
-/// zone a run is given that its search found, later than the position. One job in such a zone takes nothing from the others. A job whose
-/// search is refused by its backend, or finds a run that isn't later than the position, is *stopped* ([`Waiting::stop`]): the call at which
-/// that comes tells it, [`stopped`](Scheduler::stopped) lists such jobs, and [`ask_again`](Scheduler::ask_again) searches again. One that has no run left in the searched years stays and is
-/// silent.
+/// order, each once, up to the end of the searched years. None is left out but those that [`skip_to`](Scheduler::skip_to) or
+/// [`take_latest_due`](Scheduler::take_latest_due) passes over. After [`replace`](Scheduler::replace) they are those of the new job after
+/// its position. `laws` states this for every list of calls. In a zone that isn't calm the run given is the one that the search found,
+/// later than the position. A job in such a zone doesn't affect the others. A job is *stopped* ([`Waiting::stop`]) if its backend refuses
+/// the search, or the search finds a run that isn't later than the position. The call at which that happens says so,
+/// [`stopped`](Scheduler::stopped) lists such jobs, and [`ask_again`](Scheduler::ask_again) searches again. A job without a run left in the
+/// searched years stays, and gives nothing.
 ///
-/// Seconds are those of [`Clocked::second`]: since 1970-01-01T00:00:00 UTC, and in civil time since that date and time.
+/// Seconds are those of [`Clocked::second`]: since 1970-01-01T00:00:00 UTC, or in civil time since that date and time.
 ///
 /// ```
 /// let mut scheduler = Scheduler::new(alloc);
@@ -54,7 +54,7 @@ pub struct Scheduler<J: Recurring<T>, T: Clocked> {
     ghost fits: { (id : ℕ) → ∥ IfSome (get nat_cmp jobs id) (Fits J.runs T.moment) ∥₁ },
 }
 
-// By hand, so that a function that lets one go calls this one: its proof doesn't go through the fields at each exit.
+// By hand, so that a function that drops one calls this one: its proof doesn't go through the fields at each exit.
 impl<J: Recurring<T> + Drop, T: Clocked> Drop for Scheduler<J, T> {
     fn drop(self) {
         let Scheduler {
@@ -77,7 +77,7 @@ impl<J: Recurring<T>, T: Clocked> Scheduler<J, T> {
     ghost use Rattle.croner_scheduler.specs.declared.add.AddError.TheVariants.{OutOfMemory};
     ghost use Rattle.croner_scheduler.specs.Calls.{IsSame, IsNearest, IsWakeUp, MovesTo, turn_of, TakesDue, TakesLatest, LatestTellsStop, IsToTake, SkipsTo, SkipTellsStop, IsToMove, AsksAgain, is_asked, AgainTellsStop, TellsStop, IsAdded, IsHandedBack, IsAddRefused, IsAddFromRefused, second_before, IsGivenBack, IsPutRefused, Replaces, IsRemoved};
 
-    /// No job yet. The first id is 0.
+    /// A scheduler without jobs. The first id is 0.
     pub fn new(alloc: Global) -> Scheduler<J, T>
         ensures jobs { (id : ℕ) → (held_of T.moment result).jobs id ≡ None }
         ensures count { (held_of T.moment result).count ≡ 0 }
@@ -86,7 +86,7 @@ impl<J: Recurring<T>, T: Clocked> Scheduler<J, T> {
         Scheduler::with_first_id(alloc, 0)
     }
 
-    /// No job yet, with the first id: where ids that were given away before a restart are not to be used again. The id
+    /// A scheduler without jobs, with its first id: so that ids given before a restart aren't used again. The id
     /// 18446744073709551615 (2^64 - 1) is never given.
     pub fn with_first_id(alloc: Global, first_id: u64) -> Scheduler<J, T>
         ensures jobs { (id : ℕ) → (held_of T.moment result).jobs id ≡ None }
@@ -100,7 +100,7 @@ impl<J: Recurring<T>, T: Clocked> Scheduler<J, T> {
         }
     }
 
-    /// How many jobs there are, also those that are stopped or have no run left.
+    /// How many jobs there are, including those that are stopped or have no run left.
     pub fn len(&self) -> usize
         ensures { result ≡ (held_of T.moment self.now).count }
     {
@@ -114,7 +114,8 @@ impl<J: Recurring<T>, T: Clocked> Scheduler<J, T> {
         self.jobs.is_empty()
     }
 
-    /// The id of the job that is added next: no job has it or a higher one. Where it is 18446744073709551615 (2^64 - 1), no other is added.
+    /// The id of the job that is added next: no job has it or a higher one. Where it is 18446744073709551615 (2^64 - 1), no more jobs can
+    /// be added.
     pub fn next_id(&self) -> u64
         ensures next_id { result ≡ (held_of T.moment self.now).next_id }
         ensures unused { (id : ℕ) → result ≤ id → (held_of T.moment self.now).jobs id ≡ None }
@@ -122,7 +123,7 @@ impl<J: Recurring<T>, T: Clocked> Scheduler<J, T> {
         self.next_id
     }
 
-    /// The job of an id, and where it stands.
+    /// The job with an id, and its position.
     pub fn get(&self, id: u64) -> Option<&Waiting<J, T>>
         ensures standing { option_map (λ w. standing_of T.moment w.now) result ≡ (held_of T.moment self.now).jobs id }
         ensures fits { IfSome result (λ w. ∥ Fits J.runs T.moment w.now ∥₁) }
@@ -130,8 +131,8 @@ impl<J: Recurring<T>, T: Clocked> Scheduler<J, T> {
         self.jobs.get(&id)
     }
 
-    /// The moment of the first of the next runs ([`Waiting::next_run`]): when to call [`take_due`](Scheduler::take_due) next. `None` exactly
-    /// where no job has a next run. It makes no search.
+    /// The second of the earliest next run ([`Waiting::next_run`]) of all jobs: when to call [`take_due`](Scheduler::take_due) next. `None`
+    /// exactly where no job has a next run. It makes no search.
     pub fn next_wake_up(&self) -> Option<i64>
         ensures wake_up { IsWakeUp J.runs (held_of T.moment self.now) result }
         ensures awaited { WakesFirst (held_of T.moment self.now) result }
@@ -142,12 +143,12 @@ impl<J: Recurring<T>, T: Clocked> Scheduler<J, T> {
         }
     }
 
-    /// The first of the next runs ([`Waiting::next_run`]), if it is no later than `now`, and its job stands there from then on; `None` where
-    /// nothing is due. Of several at one instant that of the lowest id comes first.
+    /// The earliest next run ([`Waiting::next_run`]) of all jobs, if it is no later than `now`; it becomes its job's position. `None` where
+    /// nothing is due. Of several runs at one instant that of the lowest id comes first.
     ///
-    /// The run after it is searched first. Where that search, or the place of what it finds, lacks memory, the call is refused and nothing
-    /// has changed: the run is still due. Where the backend refuses that search, or it finds a run that isn't later, the run is given and
-    /// its job is stopped: [`Due::is_stopped`] tells it, this once, and the calls after it answer as ever.
+    /// The call first searches for the run after it. Where memory is lacking for that search or for its result, the call fails and nothing
+    /// has changed: the run is still due. Where the backend refuses that search, or it finds a run that isn't later, the due run is given
+    /// and its job is stopped. [`Due::is_stopped`] says so, once; later calls are not affected.
     pub fn take_due(&mut self, now: i64) -> Result<Option<Due>, AllocError>
         ensures taken { IfOk result (λ due. TakesDue J.runs now (held_of T.moment self.old) (held_of T.moment self.new) (option_map turn_of due)) }
         ensures awaited { IfOk result (λ due. TakesAwaited (held_of T.moment self.old) now (option_map turn_of due)) }
@@ -161,11 +162,11 @@ impl<J: Recurring<T>, T: Clocked> Scheduler<J, T> {
         }
     }
 
-    /// Adds a job under the next id, which is given and isn't used again; the id 18446744073709551615 (2^64 - 1) never is. The runs after
-    /// its position are left, and none up to it. A fraction of a second is dropped.
+    /// Adds a job under the next id, and returns the id, which isn't used again; the id 18446744073709551615 (2^64 - 1) is never used.
+    /// Its runs after the position will be given, and none up to it. A fraction of a second is dropped.
     ///
-    /// A job whose search is refused by its backend is added, and stopped: [`Added::is_stopped`] tells it. An error changes nothing, and
-    /// hands the job and the position back as they were handed over; `SecondBeforeNotHeld` and `NoJob` don't come.
+    /// A job whose search its backend refuses is added, but stopped: [`Added::is_stopped`] says so. An error changes nothing, and hands
+    /// the job and the position back; it is never `SecondBeforeNotHeld` or `NoJob`.
     pub fn add(&mut self, job: J, position: T) -> Result<Added, NotAdded<J, T>>
     where
         J: Drop,
@@ -185,10 +186,10 @@ impl<J: Recurring<T>, T: Clocked> Scheduler<J, T> {
         }
     }
 
-    /// Adds a job as [`add`](Scheduler::add) does, but its runs from the start's whole second on are left: each at that second counts, also
-    /// one that a gap of the clock carries there. So its position is the second before. A fraction of a second is dropped.
+    /// Adds a job as [`add`](Scheduler::add) does, but its runs from the start's whole second on will be given, that second included, also
+    /// a run that a gap of the clock carries there. So its position is the second before. A fraction of a second is dropped.
     ///
-    /// An error changes nothing, and hands the job and the start back; `PositionNotHeld` and `NoJob` don't come.
+    /// An error changes nothing, and hands the job and the start back; it is never `PositionNotHeld` or `NoJob`.
     pub fn add_from(&mut self, job: J, start: T) -> Result<Added, NotAdded<J, T>>
     where
         J: Drop,
@@ -208,11 +209,11 @@ impl<J: Recurring<T>, T: Clocked> Scheduler<J, T> {
         }
     }
 
-    /// Puts another job in the place of one, under its id and with a position of its own, and gives the job that stood there with its
-    /// position. The runs after the position are left, and none up to it. Its position may lie before that of the other job: then seconds
-    /// that were given of this id may come again. A job whose search is refused by its backend is put there, and stopped
-    /// ([`Replaced::is_stopped`]). An error changes nothing, and hands the job and the position back as they were handed over; `NoIdLeft` and
-    /// `SecondBeforeNotHeld` don't come.
+    /// Puts a job in the place of another, under that one's id and with a position of its own, and returns the other with its position. The
+    /// new job's runs after its position will be given, and none up to it. That position may be before the other job's: then seconds
+    /// already given under this id may come again. A job whose search its backend refuses is put there, but stopped
+    /// ([`Replaced::is_stopped`]). An error changes nothing, and hands the job and the position back; it is never `NoIdLeft` or
+    /// `SecondBeforeNotHeld`.
     pub fn replace(
         &mut self,
         id: u64,
@@ -237,14 +238,14 @@ impl<J: Recurring<T>, T: Clocked> Scheduler<J, T> {
         }
     }
 
-    /// Gives only the last of a job's runs that are due at `now`, and the job stands there from then on: the runs before it are done with,
-    /// as after a time for which the program didn't run. Runs up to the position don't count. However many are due, it makes one search
-    /// backward from `now` and one for the run after the one that it gives.
+    /// Gives only the last of a job's runs that are due at `now`; it becomes the job's position, so the runs before it are done. This is
+    /// for a time in which the program didn't run. Runs up to the position don't count. However many are due, it makes one search backward
+    /// from `now`, and one for the run after the one that it gives.
     ///
-    /// A job that is stopped, or has no run left, has none due. Where the search backward comes to the end of the searched years, or in a
-    /// zone that isn't calm finds nothing between the next run and `now`, the next run is given. Where the search for the run after it is
-    /// refused, the job is stopped, as by [`take_due`](Scheduler::take_due), and the answer tells it. Each answer but `Given` leaves all as it
-    /// was, and so does want of memory: what was due still is.
+    /// A job that is stopped, or has no run left, has none due. The next run is given where the search backward reaches the end of the
+    /// searched years, or, in a zone that isn't calm, finds nothing between the next run and `now`. Where the search for the run after it
+    /// is refused, the job is stopped, as by [`take_due`](Scheduler::take_due), and the answer says so. Each answer but `Given`, and lack
+    /// of memory, changes nothing: what was due still is.
     pub fn take_latest_due(&mut self, id: u64, now: i64) -> Result<Latest, AllocError>
         ensures taken { IfOk result (TakesLatest J.runs id now (held_of T.moment self.old) (held_of T.moment self.new)) }
         ensures told { IfOk result (LatestTellsStop id (held_of T.moment self.new)) }
@@ -265,10 +266,10 @@ impl<J: Recurring<T>, T: Clocked> Scheduler<J, T> {
         self.give_last(id, known, last)
     }
 
-    /// Moves the position of a job on to `now`: its runs up to then are done with, and none of them is given, as after a time for which
-    /// the program didn't run. A position is never moved back. A next run that is later is kept; else the job is searched again from
-    /// there, and where that search is refused it is stopped, which the answer tells. Each answer but `Moved` leaves all as it was, and so
-    /// does want of memory.
+    /// Moves the position of a job forward to `now`: its runs up to then are done, and none of them is given. This is for a time in which
+    /// the program didn't run. A position is never moved back. A later next run is kept; otherwise the job is searched again from `now`.
+    /// Where that search is refused, the job is stopped, and the answer says so. Each answer but `Moved`, and lack of memory, changes
+    /// nothing.
     pub fn skip_to(&mut self, id: u64, now: i64) -> Result<Skip, AllocError>
         ensures skipped { IfOk result (SkipsTo id now (held_of T.moment self.old) (held_of T.moment self.new)) }
         ensures told { IfOk result (SkipTellsStop id (held_of T.moment self.new)) }
@@ -295,7 +296,7 @@ impl<J: Recurring<T>, T: Clocked> Scheduler<J, T> {
         }
     }
 
-    /// Searches again after the position of a job that is stopped, and says what became of it. Want of memory changes nothing.
+    /// Searches again after the position of a stopped job, and returns the result. Lack of memory changes nothing.
     pub fn ask_again(&mut self, id: u64) -> Result<Again, AllocError>
         ensures asked { IfOk result (λ again. AsksAgain id (held_of T.moment self.old) (held_of T.moment self.new) (is_asked again)) }
         ensures told { IfOk result (AgainTellsStop id (held_of T.moment self.new)) }
@@ -324,7 +325,7 @@ impl<J: Recurring<T>, T: Clocked> Scheduler<J, T> {
         self.jobs.iter()
     }
 
-    /// The ids of the jobs that are stopped, in order, each with why ([`Waiting::stop`]). Takes no memory; the iterator borrows the
+    /// The ids of the stopped jobs, in order, each with the reason ([`Waiting::stop`]). Takes no memory; the iterator borrows the
     /// scheduler, and goes over all of its jobs.
     pub fn stopped(&self) -> Stops<'_, J, T>
         ensures stops { (id : ℕ) → lookup (is_at (nat_cmp id)) result ≡ option_and_then (λ s. s.stop) ((held_of T.moment self.now).jobs id) }
@@ -335,7 +336,7 @@ impl<J: Recurring<T>, T: Clocked> Scheduler<J, T> {
         }
     }
 
-    /// Takes out a job, and gives it with its position, so that it can be added again; `None` where no job has the id. It asks for no
+    /// Removes a job, and returns it with its position, so that it can be added again; `None` where no job has the id. It takes no
     /// memory, and the id isn't used again.
     pub fn remove(&mut self, id: u64) -> Option<(J, T)>
         ensures given { IsGivenBack T.moment ((held_of T.moment self.old).jobs id) result }
@@ -386,7 +387,7 @@ impl<J: Recurring<T>, T: Clocked> Scheduler<J, T> {
         Ok(Some(due_of(turn, is_stopped)))
     }
 
-    // Gives the run of a turn: its job stands there from then on. Gives whether it is stopped.
+    // Gives the run of a turn, which becomes its job's position. Returns whether the job is stopped.
     fn give(&mut self, turn: Turn) -> Result<bool, AllocError>
         requires { has_turn self.old.turns turn.second turn.id ≡ true }
         ensures given { OnOk result (MovesTo (held_of T.moment self.old) turn.id turn.second (held_of T.moment self.new)) }
@@ -426,7 +427,7 @@ impl<J: Recurring<T>, T: Clocked> Scheduler<J, T> {
         }
     }
 
-    // Puts another job in the place of one, at a position; it was handed over with another one.
+    // Puts another job in the place of one, at a position; `given` is the position that the caller passed.
     fn replace_at(
         &mut self,
         id: u64,
@@ -453,7 +454,7 @@ impl<J: Recurring<T>, T: Clocked> Scheduler<J, T> {
         }
     }
 
-    // Puts another job in the place of one, or gives it back for want of memory.
+    // Puts another job in the place of one, or gives it back for lack of memory.
     fn put(&mut self, id: u64, other: Waiting<J, T>) -> Result<Replaced<J, T>, Waiting<J, T>>
     where
         J: Drop,
@@ -492,7 +493,7 @@ impl<J: Recurring<T>, T: Clocked> Scheduler<J, T> {
         move_before_next(&mut self.jobs, id, position);
     }
 
-    // Moves a job to another position. Gives whether it is stopped.
+    // Moves a job to another position. Returns whether it is stopped.
     fn move_to(&mut self, id: u64, position: T) -> Result<bool, AllocError>
         requires { (T.moment position).fraction ≡ 0 }
         ensures told { IfOk result (λ is_stopped. IfSome ((held_of T.moment self.old).jobs id) (λ _. TellsStop (held_of T.moment self.new) id is_stopped)) }
@@ -510,7 +511,7 @@ impl<J: Recurring<T>, T: Clocked> Scheduler<J, T> {
         Ok(is_stopped)
     }
 
-    // Adds a job at a position; it was handed over with another one.
+    // Adds a job at a position; `given` is the position that the caller passed.
     fn add_at(&mut self, job: J, given: T, position: T) -> Result<Added, NotAdded<J, T>>
     where
         J: Drop,
@@ -531,7 +532,7 @@ impl<J: Recurring<T>, T: Clocked> Scheduler<J, T> {
         }
     }
 
-    // Keeps a job under the next id, or gives it back for want of memory.
+    // Keeps a job under the next id, or gives it back for lack of memory.
     fn keep(&mut self, waiting: Waiting<J, T>) -> Result<Added, Waiting<J, T>>
     where
         J: Drop,

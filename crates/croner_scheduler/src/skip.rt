@@ -1,14 +1,14 @@
-//! What becomes of a skip.
+//! The result of a skip.
 
-/// What became of a skip ([`Scheduler::skip_to`](crate::Scheduler::skip_to)).
+/// The result of a skip ([`Scheduler::skip_to`](crate::Scheduler::skip_to)).
 #[derive(Debug, Clone, Copy, PartialEq, Eq)]
 pub enum Skip {
-    /// The job stands there from now on.
+    /// The second is the job's position from now on.
     Moved {
         /// Whether it is stopped.
         is_stopped: bool,
     },
-    /// It stands there already, or later.
+    /// The job's position is that second already, or a later one.
     AlreadyThere,
     /// No job has the id.
     NoJob,

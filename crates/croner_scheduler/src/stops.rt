@@ -9,7 +9,7 @@ use std::collections::btree_map;
 use std::iter::FusedIterator;
 use std::marker::Model;
 
-/// The ids of the jobs that are stopped, in order, each with why ([`Scheduler::stopped`](crate::Scheduler::stopped)).
+/// The ids of the stopped jobs, in order, each with the reason ([`Scheduler::stopped`](crate::Scheduler::stopped)).
 #[derive(Drop)]
 pub struct Stops<'a, J, T> {
     pub(crate) jobs: btree_map::Iter<'a, u64, Waiting<J, T>>,

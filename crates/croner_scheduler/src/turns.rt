@@ -8,7 +8,7 @@ use croner::Clocked;
 use std::alloc::AllocError;
 use std::collections::BTreeSet;
 
-/// A run that is given: whose it is, when, and whether its job is stopped.
+/// A run that is given: of which job, when, and whether the job is stopped.
 #[derive(Debug, Clone, Copy, PartialEq, Eq)]
 pub struct Due {
     /// The id of its job.
@@ -19,7 +19,7 @@ pub struct Due {
     pub is_stopped: bool,
 }
 
-/// A next run: whose it is, and when.
+/// A next run: of which job, and when.
 #[derive(Clone, Copy)]
 pub(crate) struct Turn {
     pub(crate) id: u64,
@@ -56,7 +56,7 @@ fn turn_at(turn: &(i64, u64)) -> Turn
     Turn { id, second }
 }
 
-// Puts in the turn of what comes next of a job.
+// Adds the turn of a job's next run, if it has one.
 pub(crate) fn await_next<T: Clocked>(
     turns: &mut BTreeSet<(i64, u64)>,
     next: &Next<T>,
@@ -72,7 +72,7 @@ pub(crate) fn await_next<T: Clocked>(
     }
 }
 
-// Takes out the turn of what comes next of a job.
+// Removes the turn of a job's next run, if it has one.
 pub(crate) fn take_out_next<T: Clocked>(turns: &mut BTreeSet<(i64, u64)>, next: &Next<T>, id: u64)
     ensures { (second : ℤ) (other : ℕ) → has_turn turns.new second other
         ≡ cond (is_next_turn T.moment next.now id second other) false (has_turn turns.old second other) }
@@ -83,7 +83,7 @@ pub(crate) fn take_out_next<T: Clocked>(turns: &mut BTreeSet<(i64, u64)>, next: 
     }
 }
 
-// Puts the turn of what comes next of a job in the place of that of what came next before.
+// Replaces the turn of a job's old next run by that of its new one.
 #[tactic(auto, using(crate::proofs::Puts::taken_behind, crate::proofs::Puts::kept_turn))]
 pub(crate) fn change_turn<T: Clocked>(
     turns: &mut BTreeSet<(i64, u64)>,

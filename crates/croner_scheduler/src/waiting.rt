@@ -1,4 +1,4 @@
-//! A job with its position, and what comes next of it.
+//! A job with its position and its next run.
 ghost use Rattle.std.specs.Prelude.{◌≡◌, is_some, option_map, IfOk, IfErr};
 ghost use Rattle.croner_scheduler.specs.Kept.{standing_of, stop_of, run_of, FitsNext, Fits};
 ghost use Rattle.croner_scheduler.specs.Private.Latest.{due_run};
@@ -10,16 +10,16 @@ use croner::{Clocked, Recurring};
 use std::alloc::AllocError;
 use std::mem;
 
-/// Why a job is stopped. It can be only where its zone isn't calm, or the backend doesn't hold what a search from its position needs.
+/// Why a job is stopped. That happens only where its zone isn't calm, or the backend doesn't hold what a search from its position needs.
 #[derive(Debug, Drop)]
 pub enum Stop {
-    /// The search after its position was refused by its backend, with `InvalidDate` or `InvalidTime`.
+    /// Its backend refused the search after its position, with `InvalidDate` or `InvalidTime`.
     Refused(CronError),
-    /// The run that the search found isn't later than the position. That doesn't come in a calm zone.
+    /// The run that the search found isn't later than the position. That never happens in a calm zone.
     NotLater,
 }
 
-/// What comes next of a job.
+/// The next run of a job, or why there is none.
 #[derive(Debug, Drop)]
 pub(crate) enum Next<T> {
     // A run.
@@ -41,7 +41,7 @@ impl<T> Next<T> {
         }
     }
 
-    // What became of a job that has this next from now on, and was stopped.
+    // The result of searching a stopped job again, if it has this next from now on.
     pub(crate) fn again(&self) -> Again
         ensures { result ≡ again_of (is_some (stop_of self.now)) }
     {
@@ -53,7 +53,7 @@ impl<T> Next<T> {
     }
 }
 
-/// A job in a scheduler, and where it stands.
+/// A job in a scheduler, with its position and its next run.
 #[derive(Drop)]
 pub struct Waiting<J, T> {
     pub(crate) job: J,
@@ -69,16 +69,16 @@ impl<J, T> Waiting<J, T> {
         &self.job
     }
 
-    /// The moment up to which its runs are done with, a whole second of its zone: the one with which it was added or put in another's
-    /// place, or the second before the start from which it was added; and from then on the last run that was given, or the second to
-    /// which it skipped.
+    /// The moment up to which its runs are done, a whole second in its zone. At first it is the position given to `add` or `replace`,
+    /// or the second before the start given to `add_from`. From then on it is the last run that was given, or the second to which it
+    /// skipped.
     pub fn position(&self) -> &T
         ensures { result.now ≡ self.now.position }
     {
         &self.position
     }
 
-    /// The run that is given next; none where no run is left in the searched years, and where the job is stopped.
+    /// The run that is given next; `None` where no run is left in the searched years, or the job is stopped.
     pub fn next_run(&self) -> Option<&T>
         ensures { option_map (λ t. t.now) result ≡ run_of self.now.next }
     {
@@ -88,7 +88,7 @@ impl<J, T> Waiting<J, T> {
         }
     }
 
-    /// Why it is stopped; none where it isn't. A job that is stopped gives no run.
+    /// Why it is stopped; `None` where it isn't. A stopped job gives no run.
     pub fn stop(&self) -> Option<&Stop>
         ensures { option_map (λ stop. stop.now) result ≡ stop_of self.now.next }
     {
@@ -161,7 +161,7 @@ impl<J, T> Waiting<J, T> {
 }
 
 impl<J: Recurring<T>, T: Clocked> Waiting<J, T> {
-    // A job that stands at a whole second; or for want of memory the job.
+    // A job with a whole second as its position; or, for lack of memory, the job back.
     pub(crate) fn new(job: J, position: T) -> Result<Waiting<J, T>, J>
         requires { (T.moment position).fraction ≡ 0 }
         ensures job { IfOk result (λ w. w.job ≡ job) }

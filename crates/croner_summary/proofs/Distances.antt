@@ -67,7 +67,7 @@ rest_of_stepwise n d hit =
 
 -- ---- the walk from one plain value to the next
 
--- a next value that lies a step behind goes on evenly
+-- a next value that is a step greater goes on evenly
 pub even_more : (f : Field) (first reached last step next : ℕ) → 0 < step → first ≤ reached → is_stepwise step (reached - first) ≡ true
     → LieEvenly f first reached step → IsNextPlain last f (reached + 1) next → next ≤ last → next ≡ reached + step
     → (is_stepwise step (next - first) ≡ true) × LieEvenly f first next step

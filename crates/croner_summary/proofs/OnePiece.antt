@@ -35,7 +35,7 @@ placed least greatest f start end n value s low high hit =
 within_of : (start end value : ℕ) → start ≤ value → value ≤ end → is_within start end value ≡ true
 within_of start end value low high = grind (arith, nat_tests)
 
--- the second lies a step behind the first
+-- the second lies a step after the first
 second_is : (least greatest : ℕ) (f : Field) (first second last start end n : ℕ) → AreEnds least greatest f first second last → Spaced least greatest f start end n
     → second ≡ first + n
 second_is least greatest f first second last start end n e s =

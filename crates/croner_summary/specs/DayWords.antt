@@ -40,7 +40,7 @@ abbrev pub is_all : Option Piece → Bool
 is_all (Some Every) = true
 is_all other = false
 
--- weekdays behind a term: `each Monday and Friday`; all of them: `each day`
+-- weekdays after a term: `each Monday and Friday`; all of them: `each day`
 unfoldable pub named_weekdays : Style → Kind → Term → List Piece → List ℕ
 named_weekdays style kind before pieces =
     if is_all (sole pieces) then term_text style.language Each ++ unit_name style.language Day
@@ -68,7 +68,7 @@ weekday_names style pieces =
 unfoldable pub each_weekday : Style → List Piece → List ℕ
 each_weekday style pieces = term_text style.language OfEachWeekday ++ (weekday_names style pieces ++ codes ",")
 
--- weekdays behind `the first `
+-- weekdays after `the first `
 unfoldable pub nth_names : Style → List Piece → List ℕ
 nth_names style pieces = if list_all is_one pieces then list_text style NthWeekday pieces else each_weekday style pieces
 

@@ -97,7 +97,7 @@ minutes_head style minutes (Some (One minute)) = term_text style.language At ++ 
 minutes_head style minutes (Some (Range first last)) = term_text style.language At ++ unit_text style Minute minutes
 minutes_head style minutes None = term_text style.language At ++ unit_text style Minute minutes
 
--- the hours behind them: ` of hours 8 and 12`
+-- the hours after them: ` of hours 8 and 12`
 unfoldable pub of_hours : Style → List Piece → List ℕ
 of_hours style hours = term_text style.language Of ++ unit_text style Hour hours
 

@@ -83,7 +83,7 @@ fn weekdays(alloc: Global, weekdays: &CronComponent) -> Result<Weekdays, CronErr
     })
 }
 
-/// Whether the field names each weekday, each time that it comes.
+/// Whether the field names every weekday, each time it occurs.
 fn has_all_week(weekdays: &CronComponent) -> bool
     ensures { IsTrue result → HasAllWeek weekdays.now }
 {
@@ -95,7 +95,7 @@ fn has_all_week(weekdays: &CronComponent) -> bool
     true
 }
 
-/// The days of both fields, where both or none of them are written as `*`.
+/// The days of both fields, where both of them are written as `*`, or neither.
 fn joined_days(alloc: Global, pattern: &CronPattern) -> Result<Days, CronError>
     requires { (meaning_of pattern.now).star_day ≡ (meaning_of pattern.now).star_weekday }
     ensures ok { IfOk result (AreDays (meaning_of pattern.now)) }

@@ -55,7 +55,7 @@ fn is_all(one: Option<Piece>) -> bool
     }
 }
 
-/// Writes weekdays behind a term; all of them as days.
+/// Writes weekdays after a term; all seven as days.
 #[tactic(auto, unfolding(crate::specs::DayWords::named_weekdays))]
 fn write_named(
     text: &mut String,
@@ -74,7 +74,7 @@ fn write_named(
     write_list(text, style, kind, pieces)
 }
 
-/// Writes the weekdays of a phrase behind a term, if there are any.
+/// Writes the weekdays of a phrase after a term, if there are any.
 #[tactic(auto, unfolding(crate::specs::DayWords::weekday_part))]
 fn write_weekday_part(
     text: &mut String,
@@ -93,7 +93,7 @@ fn write_weekday_part(
     write_named(text, style, kind, before, &phrase.pieces)
 }
 
-/// What goes before weekdays each time that they come.
+/// What goes before weekdays that are meant each time they occur.
 fn each_term(one: Option<Piece>) -> Term
     ensures { result ≡ each_term one }
 {
@@ -130,7 +130,7 @@ fn write_weekday_names(text: &mut String, style: Style, pieces: &[Piece]) -> Res
     write_list(text, style, Kind::Weekday, pieces)
 }
 
-/// Writes weekdays of which some are in a row, each for itself.
+/// Writes weekdays of which some are in a row, one by one.
 #[tactic(auto, unfolding(crate::specs::DayWords::each_weekday))]
 fn write_each_weekday(text: &mut String, style: Style, pieces: &[Piece]) -> Result<(), CronError>
     ensures { Appends (each_weekday style pieces.now) text.old text.new result }
@@ -140,7 +140,7 @@ fn write_each_weekday(text: &mut String, style: Style, pieces: &[Piece]) -> Resu
     write_text(text, ",")
 }
 
-/// Writes weekdays of which one of a month is meant, by their names.
+/// Writes the names of weekdays of which one a month is meant.
 #[tactic(auto, unfolding(crate::specs::DayWords::nth_names))]
 fn write_nth_names(text: &mut String, style: Style, pieces: &[Piece]) -> Result<(), CronError>
     ensures { Appends (nth_names style pieces.now) text.old text.new result }
@@ -187,7 +187,7 @@ fn write_from_fifth(
     write_nth_part(text, style, Term::LastTime, told, listed, &week.last)
 }
 
-/// Writes the fourth weekdays and those behind them.
+/// Writes the fourth weekdays and those that follow: the fifth and the last.
 #[tactic(auto, unfolding(crate::specs::DayWords::from_fourth))]
 fn write_from_fourth(
     text: &mut String,
@@ -202,7 +202,7 @@ fn write_from_fourth(
     write_from_fifth(text, style, told, listed || is_some(&week.fourth), week)
 }
 
-/// Writes the third weekdays and those behind them.
+/// Writes the third weekdays and those that follow.
 #[tactic(auto, unfolding(crate::specs::DayWords::from_third))]
 fn write_from_third(
     text: &mut String,
@@ -217,7 +217,7 @@ fn write_from_third(
     write_from_fourth(text, style, told, listed || is_some(&week.third), week)
 }
 
-/// Writes the second weekdays and those behind them.
+/// Writes the second weekdays and those that follow.
 #[tactic(auto, unfolding(crate::specs::DayWords::from_second))]
 fn write_from_second(
     text: &mut String,
@@ -232,7 +232,7 @@ fn write_from_second(
     write_from_third(text, style, told, listed || is_some(&week.second), week)
 }
 
-/// Writes the first weekdays and those behind them.
+/// Writes the first weekdays and those that follow.
 #[tactic(auto, unfolding(crate::specs::DayWords::from_first))]
 fn write_from_first(
     text: &mut String,
@@ -291,7 +291,7 @@ fn write_weekdays(
     write_nth_weekdays(text, style, told || is_some(&week.each), week)
 }
 
-/// Writes weekdays to which days are narrowed.
+/// Writes the weekdays to which other days are limited.
 #[tactic(auto, unfolding(crate::specs::DayWords::only_text))]
 fn write_only(text: &mut String, style: Style, week: &Weekdays) -> Result<(), CronError>
     ensures { Appends (only_text style week.now) text.old text.new result }
@@ -324,7 +324,7 @@ fn has_range(pieces: &[Piece]) -> bool
     pieces.iter().any(|piece| is_range(Some(*piece)))
 }
 
-/// Writes weekdays that alone say which days are named.
+/// Writes weekdays, where no days of the month are named.
 #[tactic(auto, unfolding(crate::specs::DayWords::of_week_text))]
 fn write_of_week(text: &mut String, style: Style, week: &Weekdays) -> Result<(), CronError>
     ensures { Appends (of_week_text style week.now) text.old text.new result }
@@ -435,7 +435,7 @@ fn write_from_end(
     }
 }
 
-/// Whether some month hasn't a day that is named. All days, or each nth of them, are those that a month has.
+/// Whether some month lacks a named day. All days, or each nth of them, mean those that a month has.
 fn is_late(piece: Piece) -> bool
     ensures { result ≡ is_late piece }
 {
@@ -448,7 +448,7 @@ fn is_late(piece: Piece) -> bool
     }
 }
 
-/// Whether some month hasn't one of the days.
+/// Whether some month lacks one of the days.
 fn has_late(pieces: &[Piece]) -> bool
     ensures { result ≡ list_any is_late pieces.now }
 {
@@ -474,7 +474,7 @@ fn write_having(
     }
 }
 
-/// Writes that only some months have the days, where that is so.
+/// Writes that only some months have the days, if that is so.
 #[tactic(auto, unfolding(crate::specs::DayWords::late_text))]
 fn write_late(
     text: &mut String,
@@ -546,7 +546,7 @@ fn is_counted(from_end: FromEnd) -> bool
     }
 }
 
-/// Writes the days of the month behind those by number.
+/// Writes the days of the month that follow those by number.
 #[tactic(auto, unfolding(crate::specs::DayWords::behind_numbers))]
 fn write_behind_numbers(
     text: &mut String,
@@ -582,7 +582,7 @@ pub(crate) fn names_month_day(month: &MonthDays) -> bool
     is_some(&month.numbers) || is_counted(month.from_end) || is_some(&month.nearest)
 }
 
-/// Whether it is one day of the month, and one weekday.
+/// Whether exactly one day of the month and one weekday are named.
 #[tactic(auto, unfolding(crate::specs::DayWords::is_dated_weekday))]
 fn is_dated_weekday(month: &MonthDays, week: &Weekdays) -> bool
     ensures { result ≡ is_dated_weekday month.now week.now }

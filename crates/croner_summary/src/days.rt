@@ -1,4 +1,4 @@
-//! The days of a schedule: by their numbers, from the end of the month, and by their weekdays.
+//! The days of a schedule: by number, from the end of the month, and by weekday.
 
 use crate::phrase::Phrase;
 
@@ -13,24 +13,24 @@ pub enum FromEnd {
     LastWorkingDay,
 }
 
-/// Days by their numbers in the month. A day is named where one of the parts names it.
+/// Days of the month by number. A day is named if one of the parts names it.
 #[derive(Debug)]
 pub struct MonthDays {
     /// Days by number, 1 to 31.
     pub numbers: Phrase,
     /// The day from the end.
     pub from_end: FromEnd,
-    /// Days by number, 1 to 31, of each of which the nearest Monday-to-Friday day of the month is named. A month without the day
-    /// has none.
+    /// Days by number, 1 to 31: of each the nearest Monday-to-Friday day of the month is named. A month without the day has
+    /// none.
     pub nearest: Phrase,
 }
 
-/// Days by their weekdays, 0 for Sunday to 6 for Saturday. A day is named where one of the parts names it.
+/// Days by weekday, 0 for Sunday to 6 for Saturday. A day is named if one of the parts names it.
 #[derive(Debug)]
 pub struct Weekdays {
-    /// Weekdays, each time that they come.
+    /// Weekdays, each time they occur.
     pub each: Phrase,
-    /// Weekdays, the first time that they come in a month.
+    /// Weekdays, the first time they occur in a month.
     pub first: Phrase,
     /// The second time.
     pub second: Phrase,
@@ -40,7 +40,7 @@ pub struct Weekdays {
     pub fourth: Phrase,
     /// The fifth time. Some months have none.
     pub fifth: Phrase,
-    /// Weekdays, the last time that they come in a month.
+    /// Weekdays, the last time they occur in a month.
     pub last: Phrase,
 }
 
@@ -49,17 +49,17 @@ pub struct Weekdays {
 pub enum Days {
     /// Each day.
     Every,
-    /// Days by their numbers.
+    /// Days of the month.
     OfMonth(MonthDays),
-    /// Days by their weekdays.
+    /// Days by weekday.
     OfWeek(Weekdays),
-    /// Days that are named in one of the two ways.
+    /// Days that one of the two names.
     Either(MonthDays, Weekdays),
-    /// Days that are named in both ways.
+    /// Days that both name.
     Both(MonthDays, Weekdays),
 }
 
-// By hand, as for the other types here, so that a function that lets one go calls this one.
+// By hand, as for the other types here, so that a function that drops one calls this one.
 impl Drop for MonthDays {
     fn drop(self) {
         let MonthDays {

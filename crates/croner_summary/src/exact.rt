@@ -96,8 +96,7 @@ pub(crate) fn one_by_one(
     Ok(pieces)
 }
 
-/// The phrase of the marked values of a field, in the words that were found for it; where these are not exact, each value is
-/// named by itself.
+/// The phrase of the marked values of a field: the words that were found, if they are exact, otherwise each value by itself.
 pub(crate) fn exact_phrase(
     alloc: Global,
     least: u16,

@@ -14,7 +14,7 @@ use croner_base::component::{ALL_BIT, CronComponent};
 use croner_base::errors::CronError;
 use std::alloc::Global;
 
-/// Values up to the greatest, where at most the last of them lies above it.
+/// The values up to `greatest`; at most the last one lies above it.
 fn up_to(values: &[u16], greatest: u16) -> &[u16] {
     if values.is_empty() || values[values.len() - 1] <= greatest {
         return values;
@@ -32,7 +32,7 @@ fn phrase_of_none(alloc: Global) -> Phrase
     }
 }
 
-/// The phrase of the values that have a modifier, as far as they lie within the bounds. Where there is none, none is looked at.
+/// The phrase of the values within the bounds that have a modifier. If the field has no such value, none is looked at.
 pub(crate) fn marked_phrase(
     alloc: Global,
     least: u16,
@@ -100,7 +100,7 @@ fn phrase_of(alloc: Global, piece: Piece) -> Result<Phrase, CronError>
     Ok(Phrase { pieces })
 }
 
-/// The phrase that was found, or one of a piece that names the same, where that has fewer words.
+/// The phrase that was found, or a single piece that names the same values, if that has fewer words.
 fn shorter_phrase(
     alloc: Global,
     least: u16,
@@ -134,7 +134,7 @@ fn may_be_listed(piece: Piece) -> bool {
     }
 }
 
-/// The phrase of values that one piece names: that piece, or what was found for them, where that has no more words.
+/// The phrase of values that one piece names: that piece, or what was found for them, if that has no more words.
 fn told_phrase(
     alloc: Global,
     least: u16,
@@ -155,7 +155,7 @@ fn told_phrase(
     shorter_phrase(alloc, least, greatest, field, found, piece)
 }
 
-/// The phrase of the plain values of a field. Where each value is plain, or none, none is looked at.
+/// The phrase of the plain values of a field. If each value is plain, or none is, no value is looked at.
 pub(crate) fn plain_phrase(
     alloc: Global,
     least: u16,

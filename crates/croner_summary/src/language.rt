@@ -1,6 +1,6 @@
-//! The languages of texts, and what a text is made of.
+//! The languages of summaries, and what their texts are made of.
 
-/// A language in which a summary is told.
+/// A language for summaries.
 #[derive(Debug, Clone, Copy)]
 pub enum SummaryLanguage {
     /// English.
@@ -14,11 +14,11 @@ pub enum SummaryLanguage {
 pub struct Style {
     /// Its language.
     pub language: SummaryLanguage,
-    /// So many pieces of a list are told. Of more the text says how many there are.
+    /// The most pieces of a list that are written. Of the others the text says how many there are.
     pub most: u16,
 }
 
-/// A unit of which a value is one.
+/// The unit of a value.
 #[derive(Debug, Clone, Copy)]
 pub enum TimeUnit {
     Second,
@@ -29,22 +29,22 @@ pub enum TimeUnit {
     Year,
 }
 
-/// A term: a fixed part of a text, which each language has.
+/// A term: a fixed part of a text, which each language has. Each variant says where it goes.
 #[derive(Debug, Clone, Copy)]
 pub enum Term {
     /// Between the first and the last value of a range.
     To,
     /// Before the last item of a list.
     And,
-    /// Behind how many items are left out.
+    /// After the number of items that are left out.
     More,
     /// In a list, for each value.
     EachOne,
     /// In a list, between a step and the first value.
     FromValue,
-    /// Before a unit or a weekday, each time that it comes.
+    /// Before a unit or a weekday that is meant each time it occurs.
     Each,
-    /// Before weekdays in a row, each time that they come.
+    /// Before weekdays in a row that are meant each time they occur.
     EachFrom,
     /// The end of a unit before several numbers.
     Plural,
@@ -58,61 +58,61 @@ pub enum Term {
     AndAt,
     /// Between a unit and a larger one.
     Of,
-    /// Between a step and the times of day from which to which it goes.
+    /// Between a step and the times of day between which it runs.
     FromTime,
-    /// Between a step and the minutes of an hour from which to which it goes.
+    /// Between a step and the minutes of an hour between which it runs.
     FromMinute,
-    /// Behind times, before their second.
+    /// After times, before their second.
     AtSecond,
     /// Before days.
     On,
-    /// Before days, behind others.
+    /// Before days, after others.
     AndOn,
     /// Before ordinals of days.
     The,
-    /// Between a step and the day from which it goes.
+    /// Between a step and the day from which it runs.
     FromThe,
-    /// Between it and the day to which it goes.
+    /// Between that day and the day to which it runs.
     ToThe,
     /// Between a weekday and its day of the month.
     DatedThe,
-    /// Before weekdays to which days are narrowed.
+    /// Before the weekdays to which other days are limited.
     ButOnly,
-    /// Before weekdays each time that they come, behind that.
+    /// After `ButOnly`, before weekdays that are meant each time they occur.
     OnlyEach,
-    /// The end of a weekday there.
+    /// After a weekday there.
     OnlyEnd,
-    /// The end of a weekday behind the nth.
+    /// After a weekday that follows `FirstTime` to `LastTime`.
     NthEnd,
-    /// Before the weekdays that come for the first time in a month.
+    /// Before weekdays: the first of the month.
     FirstTime,
-    /// For the second time.
+    /// The second.
     SecondTime,
-    /// For the third time.
+    /// The third.
     ThirdTime,
-    /// For the fourth time.
+    /// The fourth.
     FourthTime,
-    /// For the fifth time.
+    /// The fifth.
     FifthTime,
-    /// For the last time.
+    /// The last.
     LastTime,
-    /// Behind the nth, before weekdays of which some are in a row.
+    /// After `FirstTime` to `LastTime`, before weekdays of which some are in a row.
     OfEachWeekday,
-    /// Behind these weekdays.
+    /// After those weekdays.
     OfTheMonth,
     /// The last day of the month.
     TheLastDay,
     /// The last Monday-to-Friday day of the month.
     TheLastWorkingDay,
-    /// The first one.
+    /// The first Monday-to-Friday day of the month.
     TheFirstWorkingDay,
     /// Before the days whose nearest Monday-to-Friday day is meant.
     Nearest,
-    /// Behind one that not each month has, before it.
+    /// After a day that not every month has, before its number is repeated.
     HavingOne,
-    /// Behind it.
+    /// After that number.
     HavingOneEnd,
-    /// Behind several days, of which not each month has each.
+    /// After several days that not every month has.
     HavingDays,
     /// Before months.
     InMonths,
@@ -124,7 +124,7 @@ pub enum Term {
     InYears,
     /// Before years beside a step.
     AndInYears,
-    /// That no second is named, and so nothing is scheduled.
+    /// No second is named, so nothing is scheduled.
     NoSecond,
     /// No minute.
     NoMinute,
@@ -138,6 +138,6 @@ pub enum Term {
     NoMonthDay,
     /// No weekday.
     NoWeekday,
-    /// Neither of the two.
+    /// No day of the month and no weekday.
     NoDay,
 }

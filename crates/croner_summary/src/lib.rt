@@ -1,7 +1,7 @@
-//! What a job's schedule is, in phrases: a description as data, which says exactly the schedule.
+//! A job's schedule in phrases: a description as data, which names exactly the schedule.
 //!
-//! A [`Summary`] has a phrase for each field of the pattern, and for its days. Which dates and times it says is defined by the
-//! phrases alone, and [`Summary::of`] promises that these are the scheduled ones: no value is left out, and none is named besides.
+//! A [`Summary`] has a phrase for each field of the pattern, and for its days. The phrases alone define which dates and times it
+//! names. [`Summary::of`] promises that these are exactly the scheduled ones.
 #![tactic(auto)]
 
 mod day_phrases;

@@ -91,7 +91,7 @@ fn write_listed_months(
     }
 }
 
-/// Writes months, unless each is named, by their one piece.
+/// Writes months by their one piece, unless each month is named.
 #[tactic(auto, unfolding(crate::specs::MonthWords::months_case))]
 fn write_months_case(
     text: &mut String,
@@ -121,7 +121,7 @@ fn write_months_case(
     }
 }
 
-/// Writes months, unless each is named.
+/// Writes months, unless each month is named.
 #[tactic(auto, unfolding(crate::specs::MonthWords::months_text))]
 pub(crate) fn write_months(
     text: &mut String,
@@ -163,7 +163,7 @@ fn write_listed_years(
     }
 }
 
-/// Writes years, unless each is named, by their one piece.
+/// Writes years by their one piece, unless each year is named.
 #[tactic(auto, unfolding(crate::specs::MonthWords::years_case))]
 fn write_years_case(
     text: &mut String,
@@ -194,7 +194,7 @@ fn write_years_case(
     }
 }
 
-/// Writes years, unless each is named.
+/// Writes years, unless each year is named.
 #[tactic(auto, unfolding(crate::specs::MonthWords::years_text))]
 pub(crate) fn write_years(
     text: &mut String,

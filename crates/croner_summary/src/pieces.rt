@@ -1,4 +1,4 @@
-//! The words that are found for some values. What they name is tested where they are used: nothing here is relied on.
+//! Finds words for some values. What they name is tested where they are used, so nothing relies on this file.
 
 ghost use Rattle.std.specs.Prelude.{◌≡◌, ◌≤◌, ◌<◌, ◌+◌, length, IfErr, OnErr};
 
@@ -7,16 +7,16 @@ use crate::phrase::Piece;
 use croner_base::errors::CronError;
 use std::alloc::Global;
 
-/// So many values in a row are a range.
+/// From this many values in a row on, they are written as a range.
 const RANGE_VALUES: usize = 3;
 
-/// So many values at the same distance are told by their step.
+/// From this many values at the same distance on, they are written by their step.
 const STEPPED_VALUES: usize = 5;
 
-/// So many values may be told beside each nth of the field.
+/// How many values may be written beside each nth of the field.
 const VALUES_BESIDE: usize = 3;
 
-/// Beside other values a step is told where the field has so many steps.
+/// A step is written beside other values only where the field has at least this many steps.
 const STEPS_WITH_OTHERS: u16 = 4;
 
 /// Saturday, the last day of the week, with which no other field ends.
@@ -33,7 +33,7 @@ fn first_step(values: &[u16]) -> u16 {
     values[1].saturating_sub(values[0])
 }
 
-/// Whether each value lies a step behind the one before it.
+/// Whether each value is a step greater than the one before it.
 fn is_even(values: &[u16], step: u16) -> bool {
     for i in 1..values.len() {
         if values[i].saturating_sub(values[i - 1]) != step {
@@ -72,7 +72,7 @@ fn stepped_piece(least: u16, greatest: u16, values: &[u16], step: u16) -> Option
     }
 }
 
-/// One piece for all values, if there is one that is told by it.
+/// One piece for all values, if they are written as one.
 fn one_piece(least: u16, greatest: u16, values: &[u16]) -> Option<Piece>
     requires { greatest < 65535 }
 {
@@ -100,14 +100,14 @@ fn streak_end(values: &[u16], start: usize) -> usize
     values.len() - 1
 }
 
-/// Puts a piece behind others.
+/// Appends a piece to others.
 fn push_piece(pieces: &mut Vec<Piece>, piece: Piece) -> Result<(), CronError>
     ensures { IfErr result (λ e. e ≡ CronError.OutOfMemory) }
 {
     Ok(pieces.push(piece)?)
 }
 
-/// Puts values in a row behind others: three or more as a range.
+/// Appends values in a row to others: three or more as a range.
 fn push_streak(pieces: &mut Vec<Piece>, streak: &[u16]) -> Result<(), CronError>
     requires { 0 < length streak.now }
     ensures { IfErr result (λ e. e ≡ CronError.OutOfMemory) }
@@ -121,7 +121,7 @@ fn push_streak(pieces: &mut Vec<Piece>, streak: &[u16]) -> Result<(), CronError>
     Ok(())
 }
 
-/// Puts values behind others, those in a row as ranges.
+/// Appends values to others, those in a row as ranges.
 fn push_streaks(pieces: &mut Vec<Piece>, values: &[u16]) -> Result<(), CronError>
     ensures { IfErr result (λ e. e ≡ CronError.OutOfMemory) }
 {
@@ -134,7 +134,7 @@ fn push_streaks(pieces: &mut Vec<Piece>, values: &[u16]) -> Result<(), CronError
     Ok(())
 }
 
-/// Puts Sunday behind the other weekdays, unless it begins a range.
+/// Moves Sunday after the other weekdays, unless it begins a range.
 fn put_sunday_last(weekdays: &mut Vec<Piece>) {
     if weekdays.len() < 2 {
         return;
@@ -152,7 +152,7 @@ fn on_step(least: u16, values: &[u16], step: u16) -> usize {
         .count()
 }
 
-/// The least step that isn't too small: the field has no more such steps than there are values.
+/// The least step worth trying: the field has at most as many such steps as there are values.
 fn least_step(count: u16, values: &[u16]) -> u16 {
     match u16::try_from(values.len()) {
         Ok(0) => 2,
@@ -161,7 +161,7 @@ fn least_step(count: u16, values: &[u16]) -> u16 {
     }
 }
 
-/// The least step of which each value of the field is there, with few others beside; 0 where there is none.
+/// The least step all of whose values in the field are among these, with few other values; 0 where there is none.
 fn step_with_few(least: u16, greatest: u16, values: &[u16]) -> u16
     requires { greatest < 65535 }
 {
@@ -176,7 +176,7 @@ fn step_with_few(least: u16, greatest: u16, values: &[u16]) -> u16
     0
 }
 
-/// The values that are no whole number of steps from the least.
+/// The values that aren't a whole number of steps from the least.
 fn off_step(alloc: Global, least: u16, values: &[u16], step: u16) -> Result<Vec<u16>, CronError>
     ensures { IfErr result (λ e. e ≡ CronError.OutOfMemory) }
 {
@@ -189,8 +189,8 @@ fn off_step(alloc: Global, least: u16, values: &[u16], step: u16) -> Result<Vec<
     Ok(beside)
 }
 
-/// The pieces of ascending values of a field: one piece where there is one; else each nth of the field with a few values beside, or
-/// ranges and values. Of weekdays Sunday comes last.
+/// The pieces of ascending values of a field: one piece if there is one; else each nth of the field and a few values, or ranges and
+/// values. Among weekdays Sunday comes last.
 pub(crate) fn pieces_of(
     alloc: Global,
     least: u16,

@@ -1,4 +1,4 @@
-//! Phrases that name exactly the plain values of a field. From one plain value to the next the pieces have to name none.
+//! Phrases that name exactly the plain values of a field. Between one plain value and the next the pieces must name none.
 
 ghost use Rattle.std.specs.Prelude.{◌≡◌, ◌≤◌, ◌<◌, ◌+◌, IsTrue, IfOk, IfErr};
 ghost use Rattle.croner_summary.specs.Says.{is_in_some};
@@ -40,7 +40,7 @@ fn names_none(least: u16, greatest: u16, piece: Piece, from: u16, end: u16) -> b
     }
 }
 
-/// Whether none of the pieces names one.
+/// Whether none of the pieces names such a value.
 fn name_none(least: u16, greatest: u16, pieces: &[Piece], from: u16, end: u16) -> bool
     requires low { least ≤ from }
     requires order { from < end }
@@ -66,7 +66,7 @@ pub(crate) fn next_plain(field: &CronComponent, from: u16, greatest: u16) -> u16
     }
 }
 
-/// Whether the pieces name no value before the next plain one, and name that.
+/// Whether the pieces name no value before the next plain one, and name that one.
 fn step_agrees(least: u16, greatest: u16, pieces: &[Piece], from: u16, next: u16) -> bool
     requires low { least ≤ from }
     requires order { from ≤ next }
@@ -95,8 +95,7 @@ fn are_exact(least: u16, greatest: u16, pieces: &[Piece], field: &CronComponent)
     true
 }
 
-/// The phrase of the plain values of a field, in the words that were found for it; where these are not exact, each value is
-/// named by itself.
+/// The phrase of the plain values of a field: the words that were found, if they are exact, otherwise each value by itself.
 pub(crate) fn exact_plain_phrase(
     alloc: Global,
     least: u16,

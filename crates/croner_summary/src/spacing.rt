@@ -39,7 +39,7 @@ pub(crate) fn have_at_most(pieces: &[Piece], words: u16) -> bool
     true
 }
 
-/// Whether the plain values from a first to a last one lie a step apart.
+/// Whether the plain values from a first to a last one are evenly a step apart.
 fn lie_evenly(field: &CronComponent, first: u16, last: u16, step: u16) -> bool
     requires some { 0 < step }
     requires order { first ≤ last }
@@ -105,7 +105,7 @@ fn best_of(
     Some(stepped_piece(least, greatest, first, last, step))
 }
 
-/// The shortest piece that names exactly the plain values of a field, of which the first is known; `None` where none does.
+/// The shortest piece that names exactly the plain values of a field, given the first of them; `None` where none does.
 pub(crate) fn best_piece(
     least: u16,
     greatest: u16,

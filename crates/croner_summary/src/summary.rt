@@ -17,8 +17,8 @@ use croner_base::time::{YEAR_LOWER_LIMIT, YEAR_UPPER_LIMIT};
 use croner_pattern::pattern::CronPattern;
 use std::alloc::Global;
 
-/// What a schedule is, in phrases. A date and time is one of it where its second, minute, hour, month and year are named by their
-/// phrases, and its day by the days.
+/// A schedule in phrases. It names a date and time if the phrases name its second, minute, hour, month and year, and `days` names
+/// its day.
 #[derive(Debug)]
 pub struct Summary {
     /// Seconds, 0 to 59.
@@ -35,7 +35,7 @@ pub struct Summary {
     pub years: Phrase,
 }
 
-// By hand, so that a function that lets a summary go calls this one.
+// By hand, so that a function that drops a summary calls this one.
 impl Drop for Summary {
     fn drop(self) {
         let Summary {
@@ -50,8 +50,9 @@ impl Drop for Summary {
 }
 
 impl Summary {
-    /// The summary of a job. It says exactly the dates and times that the job's pattern schedules; where the clock changes, when it
-    /// runs is told by its [`JobType`](croner::JobType). No phrase has more words than a single piece that names the same values.
+    /// The summary of a job. It names exactly the dates and times that the job's pattern schedules. When the job runs where the
+    /// clock changes depends on its [`JobType`](croner::JobType). No phrase has more words than a single piece that names the same
+    /// values.
     ///
     /// The only error is `OutOfMemory`.
     ///
@@ -67,7 +68,7 @@ impl Summary {
         Summary::of_pattern(alloc, &job.pattern)
     }
 
-    /// The summary of a pattern. It says exactly the dates and times that the pattern schedules.
+    /// The summary of a pattern. It names exactly the dates and times that the pattern schedules.
     ///
     /// The only error is `OutOfMemory`.
     pub fn of_pattern(alloc: Global, pattern: &CronPattern) -> Result<Summary, CronError>

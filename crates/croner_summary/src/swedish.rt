@@ -173,7 +173,7 @@ pub(crate) fn write_swedish_nth(
     write_swedish_number(text, n)
 }
 
-/// Whether it is the unit of years, which is of the other gender.
+/// Whether it is the unit of years, which has the other gender.
 fn is_year_unit(unit: TimeUnit) -> bool
     ensures { result ≡ is_year_unit unit }
 {

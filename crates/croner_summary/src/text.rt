@@ -18,23 +18,23 @@ use croner_base::errors::CronError;
 use std::alloc::Global;
 use std::fmt;
 
-/// The bytes that most texts fit in. Room for them is taken at once.
+/// The bytes that most texts fit in. They are reserved at once.
 const TEXT_ROOM: usize = 96;
 
-/// A text that tells all has at most so many bytes. It also tells at most so many pieces of a list, since more need more bytes.
+/// The most bytes of a text that leaves nothing out. Also the most pieces of a list in it, since more would take more bytes.
 const MOST_BYTES: u16 = 400;
 
-/// A longer text is cut: of each list it tells so many pieces.
+/// How many pieces of each list a text that is cut has.
 const CUT_PIECES: u16 = 3;
 
-/// What a list of days lacks, unless the test holds.
+/// The term for missing days, unless some are named.
 fn unless(names: bool, term: Term) -> Option<Term>
     ensures { MatchOption result (names ≡ true) (λ told. (names ≡ false) × (told ≡ term)) }
 {
     if names { None } else { Some(term) }
 }
 
-/// That the days name nothing, where they don't.
+/// The term for days that name nothing, if they do not.
 #[tactic(auto, unfolding(crate::specs::Texts::no_day))]
 fn no_day(days: &Days) -> Option<Term>
     ensures { result ≡ no_day days.now }
@@ -55,7 +55,7 @@ fn no_day(days: &Days) -> Option<Term>
     }
 }
 
-/// That the first field that names nothing does so.
+/// The term for the first field that names nothing, if there is one.
 #[tactic(auto, unfolding(crate::specs::Texts::nothing))]
 fn nothing(summary: &Summary) -> Option<Term>
     ensures { result ≡ nothing summary.now }
@@ -123,7 +123,7 @@ fn styled_text(alloc: Global, style: Style, summary: &Summary) -> Result<String,
     Ok(text)
 }
 
-/// The style of a text that tells all.
+/// The style of a text that leaves nothing out.
 fn whole_style(language: SummaryLanguage) -> Style
     ensures { result ≡ whole_style language }
 {
@@ -143,7 +143,7 @@ fn cut_style(language: SummaryLanguage) -> Style
     }
 }
 
-/// Whether a phrase has no more pieces than a cut text tells.
+/// Whether a phrase has no more pieces than a cut text has.
 #[tactic(auto, unfolding(crate::specs::Texts::is_told))]
 fn is_told(phrase: &Phrase) -> bool
     ensures { result ≡ is_told phrase.now }
@@ -151,7 +151,7 @@ fn is_told(phrase: &Phrase) -> bool
     phrase.pieces.len() <= usize::from(CUT_PIECES)
 }
 
-/// Whether no list of weekdays has more.
+/// Whether no list of weekdays has more pieces than that.
 #[tactic(auto, unfolding(crate::specs::Texts::is_week_told))]
 fn is_week_told(week: &Weekdays) -> bool
     ensures { result ≡ is_week_told week.now }
@@ -165,7 +165,7 @@ fn is_week_told(week: &Weekdays) -> bool
         && is_told(&week.last)
 }
 
-/// Whether no list of days of the month has more.
+/// Whether no list of days of the month has more pieces than that.
 #[tactic(auto, unfolding(crate::specs::Texts::is_month_told))]
 fn is_month_told(month: &MonthDays) -> bool
     ensures { result ≡ is_month_told month.now }
@@ -173,7 +173,7 @@ fn is_month_told(month: &MonthDays) -> bool
     is_told(&month.numbers) && is_told(&month.nearest)
 }
 
-/// Whether no list of days has more.
+/// Whether no list of days has more pieces than that.
 #[tactic(auto, unfolding(crate::specs::Texts::are_days_told))]
 fn are_days_told(days: &Days) -> bool
     ensures { result ≡ are_days_told days.now }
@@ -187,7 +187,7 @@ fn are_days_told(days: &Days) -> bool
     }
 }
 
-/// Whether no list has more pieces than a cut text tells.
+/// Whether no list has more pieces than a cut text has.
 #[tactic(auto, unfolding(crate::specs::Texts::are_all_told))]
 fn are_all_told(summary: &Summary) -> bool
     ensures { result ≡ are_all_told summary.now }
@@ -201,10 +201,10 @@ fn are_all_told(summary: &Summary) -> bool
 }
 
 impl Summary {
-    /// The summary in words, as a line without a full stop. It is known exactly from the phrases.
+    /// The summary in words, as a line without a full stop. The phrases determine it exactly.
     ///
-    /// A text of more than 400 bytes is cut: of a list of more than three pieces it tells the first three, and how many more there
-    /// are; a step that others stand beside is told before these. [`is_whole`](Self::is_whole) says whether it tells all.
+    /// A text of more than 400 bytes is cut: of a list of more than three pieces it has the first three, and how many more there
+    /// are. A step beside other values comes before these. [`is_whole`](Self::is_whole) says whether anything is left out.
     ///
     /// The only error is `OutOfMemory`.
     ///

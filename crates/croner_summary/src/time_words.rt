@@ -23,7 +23,7 @@ const MINUTES: u16 = 60;
 /// The hours of a day.
 const HOURS: u16 = 24;
 
-/// So many single values at most are told as times of day.
+/// The most single values that are written as times of day.
 const MOST_TIMES: usize = 6;
 
 /// A part of the day that is stepped through, by minutes or by hours.
@@ -107,7 +107,7 @@ fn at_step(minutes: Option<Piece>, first: u16, last: u16, n: u16) -> Option<Stre
     }
 }
 
-/// Minutes and hours as one part of the day, where they are one.
+/// Minutes and hours as one part of the day, if they are one.
 fn stretch_of(minutes: Option<Piece>, hours: Option<Piece>) -> Option<Stretch>
     ensures { result ≡ stretch_of minutes hours }
 {
@@ -132,7 +132,7 @@ fn unit_of(by_hours: bool) -> TimeUnit
     }
 }
 
-/// Whether a stretch is the full hours of the whole day, at a step.
+/// Whether a stretch is full hours of the whole day, at a step.
 fn is_whole_day(stretch: Stretch) -> bool
     ensures { result ≡ is_whole_day stretch }
 {
@@ -193,7 +193,7 @@ fn write_at_minutes(text: &mut String, style: Style, minutes: &[Piece]) -> Resul
     write_unit(text, style, TimeUnit::Minute, minutes)
 }
 
-/// Writes every so many minutes of some.
+/// Writes every nth minute of some.
 fn write_stepped_minutes(
     text: &mut String,
     language: SummaryLanguage,
@@ -230,7 +230,7 @@ fn write_minutes_head(
     }
 }
 
-/// Writes the hours behind minutes.
+/// Writes the hours after minutes.
 #[tactic(auto, unfolding(crate::specs::TimeWords::of_hours))]
 fn write_of_hours(text: &mut String, style: Style, hours: &[Piece]) -> Result<(), CronError>
     ensures { Appends (of_hours style hours.now) text.old text.new result }
@@ -253,7 +253,7 @@ fn write_minutes_and_hours(
     write_of_hours(text, style, hours)
 }
 
-/// Writes a step with others beside.
+/// Writes a step and other values beside it.
 #[tactic(auto, unfolding(crate::specs::TimeWords::beside_text))]
 fn write_beside(text: &mut String, style: Style, n: u16, minutes: &[Piece]) -> Result<(), CronError>
     requires { 0 < length minutes.now }
@@ -437,7 +437,7 @@ pub(crate) fn value_of(one: Option<Piece>) -> u16
     }
 }
 
-/// Whether the values are single, and few enough to be told as times of day.
+/// Whether the values are single, and few enough to be written as times of day.
 #[tactic(auto, unfolding(crate::specs::TimeWords::are_times))]
 fn are_times(pieces: &[Piece]) -> bool
     ensures { result ≡ are_times pieces.now }
@@ -463,7 +463,7 @@ fn write_parts(
     write_of_hours(text, style, hours)
 }
 
-/// Writes the second behind minutes and hours, where it isn't 0.
+/// Writes the second after minutes and hours, unless it is 0.
 #[tactic(auto, unfolding(crate::specs::TimeWords::at_second))]
 fn write_at_second(
     text: &mut String,
@@ -479,7 +479,7 @@ fn write_at_second(
     write_number(text, second)
 }
 
-/// Writes minutes and hours at a second that are no times of day.
+/// Writes minutes and hours at a second, where they aren't written as times of day.
 #[tactic(auto, unfolding(crate::specs::TimeWords::untimed))]
 fn write_untimed(
     text: &mut String,
@@ -591,7 +591,7 @@ fn write_many_seconds(
     write_parts(text, style, seconds, minutes, hours)
 }
 
-/// Writes the times of a day, by the one piece of the seconds.
+/// Writes the times of a day, given the one piece of the seconds, if there is one.
 #[tactic(auto, unfolding(crate::specs::TimeWords::second_case))]
 fn write_second_case(
     text: &mut String,

@@ -27,9 +27,9 @@ pub enum Kind {
     Ordinal,
     /// By the names of weekdays.
     Weekday,
-    /// The same behind the nth.
+    /// By the names of weekdays after an ordinal, as in `the first Monday`.
     NthWeekday,
-    /// The same where days are narrowed to them.
+    /// By the names of weekdays to which other days are limited.
     OnlyWeekday,
     /// By the names of months.
     Month,
@@ -126,7 +126,7 @@ pub(crate) fn write_nth(
     }
 }
 
-/// Writes a text behind another.
+/// Appends a text to another.
 pub(crate) fn write_text(text: &mut String, more: &str) -> Result<(), CronError>
     ensures { Appends more.now text.old text.new result }
 {

@@ -5,6 +5,6 @@ use Rattle.std.specs.declared.alloc.Global.{Global}
 use Rattle.croner_base.specs.declared.errors.CronError.{CronError}
 use Rattle.croner_base.specs.declared.errors.CronError.TheVariants.{OutOfMemory}
 
--- the text, or want of memory
+-- the text, or lack of memory
 abbrev pub Writes : List ℕ → Result (String Global) CronError → Type 0
 Writes text answer = MatchResult answer (λ s. string_bytes s ≡ text) (λ e. e ≡ OutOfMemory)

@@ -1,5 +1,5 @@
-//! The English forms of times, hours, months and years, over a language's own texts: what a language calls in one line
-//! where it keeps one. The only error of each is `OutOfMemory`.
+//! The English forms of times, hours, months and years, with a language's own texts in them. A language that keeps one
+//! of these forms calls it in one line. The only error of each is `OutOfMemory`.
 
 ghost use Rattle.croner_words.specs.English.{every_months, every_step, past, past_hour};
 ghost use Rattle.croner_words.specs.Numbers.{clock_text};
@@ -60,7 +60,7 @@ pub fn every_x_months(alloc: Global, step: u16) -> Result<String, CronError>
     Ok(format!(in alloc; "every {step} months")?)
 }
 
-/// What the language's own `year_phrase` is given for every so many years: `every 2`.
+/// What the language's own `year_phrase` is given for a step of years: `every 2`.
 ///
 /// ```
 /// let text = english_form::every(alloc, 2)?; // every 2

@@ -1,13 +1,13 @@
-//! What a language has to say, so that a pattern can be described in it.
+//! What a language has to supply, so that a pattern can be described in it.
 
 use croner_base::errors::CronError;
 use std::alloc::Global;
 
 /// A language for descriptions.
 ///
-/// Each function gives the text that [`meaning`](Self) has for it and for its arguments. A function that makes a text takes
-/// the allocator first, and its only error is `OutOfMemory`; the others take no memory. A language that keeps an English
-/// form says so in one line, by a call of [`english_form`](crate::english_form).
+/// Each function returns the text that [`meaning`](Self) has for that function and its arguments. A function that builds a
+/// text takes the allocator as its first argument, and its only error is `OutOfMemory`; the others take no memory. A
+/// language that keeps an English form calls that of [`english_form`](crate::english_form).
 ///
 /// ```
 /// // In the `impl` of a language that writes hours as English does:
@@ -23,7 +23,7 @@ pub trait Language {
     /// The text of each function.
     ghost meaning: { Self → Wording };
 
-    /// Runs at each full minute.
+    /// Runs at the beginning of each minute.
     ///
     /// ```
     /// let text = English.every_minute(); // Every minute
@@ -63,7 +63,7 @@ pub trait Language {
     fn every_x_hours(&self, alloc: Global, step: u16) -> Result<String, CronError>
         ensures { Writes ((meaning self.now).every_x_hours step) result };
 
-    /// Each minute of every so many hours. No description has it.
+    /// Each minute of every so many hours. No description uses it.
     ///
     /// ```
     /// let text = English.every_minute_of_every_x_hours(alloc, 2)?; // Every minute, of every 2 hours
@@ -214,7 +214,7 @@ pub trait Language {
     ) -> Result<String, CronError>
         ensures { Writes ((meaning self.now).the_nth_weekday_of_the_month n day.now) result };
 
-    /// That a day has to be such a weekday besides.
+    /// That a day must also be such a weekday.
     ///
     /// ```
     /// let text = English.dom_and_dow_if_also(alloc, "Friday")?; // (if it is also Friday)
@@ -222,7 +222,7 @@ pub trait Language {
     fn dom_and_dow_if_also(&self, alloc: Global, dow: &str) -> Result<String, CronError>
         ensures { Writes ((meaning self.now).dom_and_dow_if_also dow.now) result };
 
-    /// That a day has to be one of several weekdays besides.
+    /// That a day must also be one of several weekdays.
     ///
     /// ```
     /// let days = "Monday and the last Friday of the month";
@@ -240,7 +240,7 @@ pub trait Language {
     fn list_conjunction_and(&self) -> &'static str
         ensures { result.now ≡ (meaning self.now).list_conjunction_and };
 
-    /// The word between days of the month and weekdays of which either will do.
+    /// The word between days of the month and weekdays, where either is enough.
     ///
     /// ```
     /// let text = English.list_conjunction_or(); // or
@@ -248,7 +248,7 @@ pub trait Language {
     fn list_conjunction_or(&self) -> &'static str
         ensures { result.now ≡ (meaning self.now).list_conjunction_or };
 
-    /// The word before the last item of a list, with the comma of a language that writes one there. No description has it.
+    /// The word before the last item of a list, with a comma in a language that writes one there. No description uses it.
     ///
     /// ```
     /// let text = English.list_conjunction_and_comma(); // , and

@@ -1,4 +1,4 @@
-//! The languages in which patterns are described, each by the exact text of each of its functions.
+//! The languages in which patterns are described. Of each function of each language the exact text is stated.
 #![tactic(auto)]
 
 pub mod english;

@@ -1,4 +1,4 @@
-//! The calendar and tables of offsets, whose calls make no request, and tables of zones, which take room for their changes.
+//! The calendar and tables of offsets, whose calls take no memory, and tables of zones, which take memory for their changes.
 
 use croner::errors::CronError;
 use croner::time::table::{ClockTable, TableTime};
@@ -15,11 +15,11 @@ use std::alloc::Global;
 
 const SECONDS_PER_DAY: i64 = 86_400;
 
-// Room for the text of a date and time.
+// The bytes reserved for the text of a date and time.
 const TEXT_BYTES: usize = 64;
 
-/// Questions of the calendar about a date: whether its year is a leap year, the year's days, the month's days, the day of the
-/// year, and whether all ways to the date give it; or that there is no such date.
+/// Questions about a date: whether its year is a leap year, the year's days, the month's days, and the day of the year.
+/// Also whether all ways of making the date give it; or that there is no such date.
 pub fn calendar(caller: Caller<'_>, question: &Value) -> Result<Outcome> {
     let (year, month, day) = three(question, "date")?;
     caller.begin();
@@ -59,7 +59,7 @@ fn is_same_date(date: CivilDate) -> bool {
     is_told_alike && are_alike(&again, &date)
 }
 
-/// A weekday by a number of days from Sunday, and the one a day later.
+/// The weekday that many days from Sunday, and the one a day later.
 pub fn weekday(caller: Caller<'_>, question: &Value) -> Result<Outcome> {
     let days = number_at(question, "days")?;
     caller.begin();
@@ -72,7 +72,7 @@ pub fn weekday(caller: Caller<'_>, question: &Value) -> Result<Outcome> {
     Outcome::of_text(caller.alloc, text)
 }
 
-/// A time of day by its hour, minute and second, or that there is none.
+/// The time of day of an hour, a minute and a second, or that there is none.
 pub fn clock_face(caller: Caller<'_>, question: &Value) -> Result<Outcome> {
     let (hour, minute, second) = three(question, "time")?;
     caller.begin();
@@ -100,7 +100,7 @@ fn is_same_time(time: CivilTime) -> bool {
     is_in_day && are_alike(&again, &time)
 }
 
-/// A date and time by its six numbers: its text, written into room that was taken before, and its numbers; or its refusal.
+/// The date and time of six numbers: its text, written into memory reserved before, and its numbers; or its refusal.
 pub fn date_and_time(caller: Caller<'_>, question: &Value) -> Result<Outcome> {
     let (year, month, day) = three(question, "date")?;
     let (hour, minute, second) = three(question, "time")?;
@@ -139,8 +139,8 @@ fn is_same_civil(civil: CivilDateTime) -> bool {
     are_alike(&again, &civil)
 }
 
-/// A table of offsets of a first offset and changes, and calls of a second on its clock: how many instants show what it shows, and
-/// the second a day on.
+/// The table of a first offset and changes, and calls of a second on its clock: how many instants show what it shows, and the
+/// second a day later.
 pub fn clock_table(caller: Caller<'_>, question: &Value) -> Result<Outcome> {
     let first = number_at(question, "first")?;
     let second = number_at(question, "second")?;
@@ -151,7 +151,7 @@ pub fn clock_table(caller: Caller<'_>, question: &Value) -> Result<Outcome> {
     told_of_table(caller, table, second)
 }
 
-/// The table of a zone of a rule in a window, and calls of a second on its clock, as those of a table of offsets.
+/// The table of a rule's zone in a window, and calls of a second on its clock, as for a table of offsets.
 pub fn zone_table(caller: Caller<'_>, question: &Value) -> Result<Outcome> {
     let (first, last) = (number_at(question, "first")?, number_at(question, "last")?);
     let second = number_at(question, "second")?;

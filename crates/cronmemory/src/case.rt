@@ -1,4 +1,4 @@
-//! The kinds of cases by their names: those of one kind of call here, and those that other tools ask too.
+//! The kinds of cases by their names: those of this tool alone, and those that other tools share.
 
 use crate::calendar::{calendar, clock_face, clock_table, date_and_time, weekday, zone_table};
 use crate::clones::clone_of;

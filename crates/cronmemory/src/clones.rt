@@ -1,4 +1,4 @@
-//! Copies of each type that has memory.
+//! Copies of each type that holds memory.
 
 use crate::iterators::item_text;
 use crate::tables::texts_of;
@@ -70,7 +70,7 @@ fn shown_copy<S: Shown>(alloc: Global, copy: Result<S, AllocError>) -> Result<An
     Ok(Answer::Text(text?))
 }
 
-/// A copy, and afterwards what was copied: the kind of the operation `clone of a`.
+/// A copy, and afterwards what was copied. The kind is what follows `clone of a` in the operation.
 pub fn clone_of(caller: Caller<'_>, question: &Value, kind: &str) -> Result<Outcome> {
     match kind {
         " field" => copied(caller, &read_field(caller.alloc, question)?),
@@ -122,7 +122,7 @@ impl OverTime for CopyOfResolution {
     }
 }
 
-// An iterator over a job's runs, which is copied after its first call: the fault and the next item of each.
+// An iterator over a job's runs, copied after its first call: the fault and the next item of each.
 #[derive(Clone, Copy)]
 struct CopyOfIterator<'j>(&'j Job);
 

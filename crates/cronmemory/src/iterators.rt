@@ -27,7 +27,7 @@ pub fn run_text<T: Moment>(alloc: Global, run: &Run<T>) -> Result<String> {
     }
 }
 
-// One call between the marks: its item. Where it lacks memory, which is then noted, the call that comes next has memory.
+// One call between the marks: its item. If it lacks memory, that is noted, and the next call has memory.
 fn next_item<T: Moment>(
     caller: Caller<'_>,
     runs: &mut Runs<'_, T>,
@@ -44,8 +44,8 @@ fn next_item<T: Moment>(
     item_text(caller.alloc, item)
 }
 
-// The items of an iterator, or want of memory where its maker or one of its calls lacked it; afterwards all of the items, and
-// the fault.
+// The items of an iterator, or lack of memory if its constructor or one of its calls lacked it; afterwards all items, and the
+// fault.
 fn items<T: Moment>(
     caller: Caller<'_>,
     runs: &mut Runs<'_, T>,
@@ -65,7 +65,7 @@ fn with_fault(alloc: Global, items: &str, fault: &str) -> Result<String> {
     Ok(format!(in alloc; "{items} {fault}")?)
 }
 
-/// A text, or want of memory where a call lacked it.
+/// A text, or lack of memory where a call lacked it.
 pub fn or_lacking(text: String, lacked: bool) -> Result<Answer> {
     if lacked {
         return Err(Fault::OutOfMemory);
@@ -73,7 +73,7 @@ pub fn or_lacking(text: String, lacked: bool) -> Result<Answer> {
     Ok(Answer::Text(text))
 }
 
-// The items of an iterator that is made between the marks, and that is made again with memory where that was refused.
+// The items of an iterator that is made between the marks, and again with memory if that was refused.
 #[derive(Clone, Copy)]
 struct Listed<'j> {
     job: &'j Job,
@@ -97,14 +97,14 @@ impl<'j> OverTime for Listed<'j> {
     }
 }
 
-/// The items of an iterator over the runs of a job from the start of a question, at so many calls.
+/// The items of an iterator over the runs of a job from the start of a question, for a number of calls.
 pub fn listing(caller: Caller<'_>, question: &Value) -> Result<Outcome> {
     let read = Job::read(caller.alloc, question)?;
     let (job, how, count) = (&read, How::read(question)?, number_at(question, "count")?);
     over_time(caller, question, &Listed { job, how, count })
 }
 
-/// The items of an iterator that is handed its job, which makes no request over civil time.
+/// The items of an iterator that takes over its job, which takes no memory in civil time.
 pub fn handed(caller: Caller<'_>, question: &Value) -> Result<Outcome> {
     let start = civil_value(question, "start")?;
     let count = number_at(question, "count")?;

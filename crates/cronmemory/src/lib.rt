@@ -1,5 +1,5 @@
-//! Cases of calls that ask for memory, which `cronreplay memory` makes for the script `memory` at the top: it has the requests
-//! refused.
+//! Cases of calls that ask for memory. `cronreplay memory` makes them for the script `memory` at the top, which has the
+//! requests refused.
 #![tactic(auto)]
 
 mod calendar;

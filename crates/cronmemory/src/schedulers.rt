@@ -1,4 +1,4 @@
-//! A scheduler: one of its calls, with others before it and behind it.
+//! A scheduler: one of its calls, with others before and after it.
 
 use croner::Clocked;
 use croner_rows::{
@@ -75,8 +75,8 @@ fn answer_of(answer: Result<Value>) -> Result<Answer> {
     Ok(Answer::Value(answer?))
 }
 
-/// A call of a scheduler that stands as the calls `before` leave it. Afterwards whether a call that lacked memory left each job as it
-/// stood, and what the calls `behind` answer once such a call was made again with memory.
+/// A call of a scheduler as the calls `before` leave it. Afterwards whether a call that lacked memory left each job as it was.
+/// Also what the calls `behind` answer, once a call that lacked memory was made again with memory.
 pub fn call_of_scheduler(caller: Caller<'_>, question: &Value) -> Result<Outcome> {
     over_clocks(caller, question, &OneCall { question })
 }

@@ -69,7 +69,7 @@ fn displayed_answer(text: Result<String, AllocError>) -> Result<Answer> {
     Ok(Answer::Text(text?))
 }
 
-/// Whether the text of a summary in a language tells all of it, and the summary afterwards.
+/// Whether the text of a summary in a language leaves nothing out, and the summary afterwards.
 pub fn whole(caller: Caller<'_>, question: &Value) -> Result<Outcome> {
     let language = language_of(question)?;
     let summary = summary_of(caller.alloc, question)?;

@@ -28,7 +28,7 @@ pub fn texts_of(alloc: Global, table: &CronTable, count: usize) -> Result<String
     Ok(texts)
 }
 
-/// One more job in a table, that of `text`. Afterwards the texts that stood there before, and whether there are as many jobs as
+/// One more job in a table, that of `text`. Afterwards the texts that were there before, and whether there are as many jobs as
 /// the answer says.
 pub fn pushed(caller: Caller<'_>, question: &Value) -> Result<Outcome> {
     let mut table = Table::read(caller.alloc, question)?;
@@ -72,7 +72,7 @@ fn text_or_none(alloc: Global, job: &Option<Job>) -> Result<Answer> {
     Ok(Answer::Text(String::from_str(alloc, text)?))
 }
 
-/// The jobs of a table in order. The answer is how many there are, and how many bytes their texts have together.
+/// The jobs of a table in order. The answer is how many there are, and how many bytes their texts have in total.
 pub fn jobs(caller: Caller<'_>, question: &Value) -> Result<Outcome> {
     let table = Table::read(caller.alloc, question)?;
     caller.begin();
@@ -91,7 +91,7 @@ fn count_and_bytes(table: &CronTable) -> (usize, usize) {
     (count, bytes)
 }
 
-/// A new table, what is asked of a table, and the making of its iterators: a place and a civil start.
+/// A new table, questions of a table about a place, and its iterators from a civil start.
 pub fn asked(caller: Caller<'_>, question: &Value) -> Result<Outcome> {
     let place = number_at(question, "place")?;
     let start = civil_value(question, "start")?;
@@ -163,8 +163,8 @@ fn with_next<T: Moment>(alloc: Global, first: &str, runs: &mut Runs<'_, T>) -> R
     Ok(format!(in alloc; "{first} {second}")?)
 }
 
-/// The item of an iterator over a table behind so many: from the third on runs are kept, and not each job is searched. Afterwards
-/// that item, asked for again with memory where it was refused, and the next.
+/// The item of an iterator over a table after `before` others. From the third on runs are kept, and not every job is searched.
+/// Afterwards that item, asked for again with memory if it was refused, and the next.
 pub fn item_at(caller: Caller<'_>, question: &Value, before: u32) -> Result<Outcome> {
     let read = Table::read(caller.alloc, question)?;
     let (table, how) = (&read.jobs, How::read(question)?);

@@ -1,4 +1,4 @@
-//! Parsers, refused texts, questions of what was read, languages, and fields that are made new.
+//! Parsers, refused texts, questions about what was read, languages, and new fields.
 
 use croner::describe::Language;
 use croner::describe::lang::english::English;
@@ -14,7 +14,7 @@ use jiff::civil::DateTime;
 use serde_json::Value;
 use std::alloc::Global;
 
-/// A field that is made new.
+/// A new field.
 pub fn new_field(caller: Caller<'_>, question: &Value) -> Result<Outcome> {
     let new = member(question, "new")?;
     caller.begin();
@@ -50,7 +50,7 @@ fn shown_fault(
     Ok(Answer::Text(format!(in alloc; "{start}-{end} {fault}")?))
 }
 
-/// A parser that is built from settings: its order beside a new one.
+/// A parser built from settings: how it compares with a new one.
 pub fn parser(caller: Caller<'_>, question: &Value) -> Result<Outcome> {
     caller.begin();
     let built = read_parser(question);
@@ -75,9 +75,9 @@ fn printed_json(alloc: Global, json: Result<Value, CronError>) -> Result<Answer>
     Ok(Answer::Text(printed(alloc, &json)?))
 }
 
-/// Questions of a job that make no request, about a date and time: whether it is named, the kind of job, whether the fields have
-/// their shapes, the three flags, and whether the pattern is equal to itself, hashes alike and has the job's text. Then both day
-/// fields must match.
+/// Questions about a job and a date and time that take no memory: whether the job names it, the kind of job, whether the fields
+/// have their shapes, and the three flags. Also whether the pattern is equal to itself, has the same hash and has the job's
+/// text. Then both day fields must match.
 pub fn questions(caller: Caller<'_>, question: &Value) -> Result<Outcome> {
     let at = civil_value(question, "at")?;
     let mut job = Job::read(caller.alloc, question)?;
@@ -108,7 +108,7 @@ fn is_true(answer: &Result<bool, CronError>) -> bool {
     matches!(answer, Ok(true))
 }
 
-/// The texts of a language that are no sentences about a number.
+/// The texts of a language that aren't about a number.
 pub fn words_of_language(caller: Caller<'_>, question: &Value) -> Result<Outcome> {
     match text(question, "language")? {
         "english" => words_of(caller, &English),

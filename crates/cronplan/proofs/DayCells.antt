@@ -1,5 +1,5 @@
 -- Changes of a clock, hours and dates, one after the other.
-use Rattle.std.proofs.Common.{◌≡◌, ◌∙◌, ℕ, ℤ, pos, neg_ℤ, negsuc, ◌+◌, ◌<◌, ◌≤ℤ◌, List, [], ◌∷◌, ◌++◌, length, get_or, take, refl, ap, sym, subst, arith, FitsSigned, w64, ◌+ℤ◌, ◌-ℤ◌, Bool, true, false, cond, int_lt, int_le, ◌&&◌, ◌<ℤ◌, unsigned_abs}
+use Rattle.std.proofs.Common.{◌≡◌, ◌∙◌, ℕ, ℤ, pos, negsuc, ◌+◌, ◌<◌, ◌≤ℤ◌, List, [], ◌∷◌, ◌++◌, length, get_or, take, refl, ap, sym, subst, arith, FitsSigned, w64, ◌+ℤ◌, ◌-ℤ◌, Bool, true, false, cond, int_lt, int_le, ◌&&◌, ◌<ℤ◌, unsigned_abs}
 use Rattle.std.proofs.lemmas.Int.{ints, clamps, by_lt_z}
 use Rattle.std.proofs.lemmas.List.{take_more, append-nil, length-append, get_or_append_left, get_or_at}
 use Rattle.std.proofs.lemmas.List.Concat.{flat_map-append}
@@ -35,6 +35,15 @@ pub date_number : (w : ℤ) → FitsSigned w64 w → IsDateNumber (date_of w)
 date_number (pos a) h = record { low = omega (arith, ints); high = omega (arith, ints, h) }
 date_number (negsuc a) h = record { low = omega (arith, ints, h); high = omega (arith, ints) }
 
+-- and so are the dates beside them
+pub date_behind : (w r : ℤ) → FitsSigned w64 w → r ≡ date_of w +ℤ pos 1 → IsDateNumber r
+date_behind (pos a) r h e = record { low = omega (arith, ints, e); high = omega (arith, ints, h, e) }
+date_behind (negsuc a) r h e = record { low = omega (arith, ints, h, e); high = omega (arith, ints, e) }
+
+pub date_before : (w r : ℤ) → FitsSigned w64 w → r ≡ date_of w -ℤ pos 1 → IsDateNumber r
+date_before (pos a) r h e = record { low = omega (arith, ints, e); high = omega (arith, ints, h, e) }
+date_before (negsuc a) r h e = record { low = omega (arith, ints, h, e); high = omega (arith, ints, e) }
+
 pub least_number : (a b r : ℤ) → IsDateNumber a → IsDateNumber b → r ≡ int_min a b → IsDateNumber r
 least_number a b r m n e = record { low = omega (arith, ints, clamps, e, m.low, n.low); high = omega (arith, ints, clamps, e, m.high, n.high) }
 
@@ -52,7 +61,7 @@ each_more {X} P old new x e each one k d h =
     (λ late. let same : k ≡ length old = omega (arith, ints, late, inside) in
     subst (λ (n : ℕ). P n (get_or (old ++ x ∷ []) n d)) (sym same) (subst (P (length old)) (sym (get_or_at old x [] d (length old) refl)) one)))
 
--- so many dates behind the first, where there are more, is no later than the last
+-- so many dates after the first, where there are more, is no later than the last
 pub within_dates : (first last : ℤ) (k : ℕ) → k < dates_between first last → (first +ℤ pos k) ≤ℤ last
 within_dates first last k = at (int_lt last first) refl where
   at : (b : Bool) → int_lt last first ≡ b → k < cond b 0 (unsigned_abs (last -ℤ first) + 1) → (first +ℤ pos k) ≤ℤ last

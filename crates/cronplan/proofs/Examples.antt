@@ -1,13 +1,12 @@
 -- Worked rows, computed from the definitions: a day from 00:00 on to 24:00, with starts at 02:00 of two jobs, and at 04:30.
-use Rattle.std.proofs.Common.{◌≡◌, ℕ, ℤ, pos, true, false, Bool, Option, Some, None, List, [], ◌∷◌, filter, int_lt, refl}
+use Rattle.std.proofs.Common.{◌≡◌, ℕ, ℤ, pos, true, false, Bool, List, [], ◌∷◌, refl}
 use Rattle.cronplan.specs.declared.counts.Unit.TheVariants as units
 use Rattle.cronplan.specs.declared.moments.Moment.{Moment}
 use Rattle.std.specs.declared.cmp.Ordering.TheVariants.{Less, Greater}
 use Rattle.cronplan.specs.declared.start.JobStart.{JobStart}
 use Rattle.cronplan.specs.declared.windows.Bound.TheVariants as bounds
 use Rattle.cronplan.specs.declared.windows.Edge.{Edge}
-use Rattle.cronplan.specs.declared.windows.Window.{Window}
-use Rattle.cronplan.specs.Counts.{key_of, starts_at, count_of}
+use Rattle.cronplan.specs.Counts.{starts_at}
 use Rattle.cronplan.specs.Jobs.{Seen, shown_of, named_of, end_with}
 use Rattle.cronplan.specs.Moments.{at_second, fullest_cmp}
 use Rattle.cronplan.specs.Private.Gaps.{gaps}

@@ -2,13 +2,11 @@
 -- shows 02:00 to 03:00 twice on October 31.
 use Rattle.std.proofs.Common.{◌≡◌, ℕ, ℤ, pos, true, false, Some, None, List, [], ◌∷◌, refl}
 use Rattle.croner_base.specs.TableZone.{clock}
-use Rattle.croner_base.specs.Zone.{Zone}
 use Rattle.cronplan.specs.declared.changes.ClockChange.{ClockChange}
 use Rattle.cronplan.specs.declared.moments.Moment.{Moment}
-use Rattle.cronplan.specs.declared.span.Span.{Span}
 use Rattle.cronplan.specs.declared.start.JobStart.{JobStart}
-use Rattle.cronplan.specs.Changes.{change_at, change_in, skips, repeats, skips_hour, repeats_hour}
-use Rattle.cronplan.specs.Counts.{hour_of, date_of}
+use Rattle.cronplan.specs.Changes.{change_at, skips, repeats, skips_hour, repeats_hour}
+use Rattle.cronplan.specs.Counts.{date_of}
 use Rattle.cronplan.specs.Days.{cell_of, fullest_on, dates_between}
 
 abbrev changes : List (ℤ × ℤ)

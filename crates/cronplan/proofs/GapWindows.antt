@@ -23,7 +23,7 @@ gaps_step least end from ss i s h e =
 
 -- ---- what they are
 
--- no second is later than those behind it
+-- no second is later than those after it
 abbrev pub Climbs : List ℤ → Type 0
 Climbs [] = Unit {0}
 Climbs (s ∷ ss) = All (λ t. s ≤ℤ t) ss × Climbs ss
@@ -46,7 +46,7 @@ gap-all P least w h = go (is_long least w) h where
 gap-contains : (least : ℕ) (w : Window) → is_long least w ≡ true → Contains (gap least w) w
 gap-contains least w e = subst (λ (b : Bool). Contains (cond b (w ∷ []) []) w) (sym e) (contains-head w [])
 
--- of these starts those that may lie behind a side are the ones that are left
+-- of these starts those that may lie after a side are the ones that are left
 pub record Stands (starts : List JobStart) (span : Span) (from : Edge) (ss : List JobStart) : Type 0 where
   pub climbs : Climbs (seconds_of ss)
   pub after : All (λ t. from.second ≤ℤ t) (seconds_of ss)
@@ -121,7 +121,7 @@ module _ (starts : List JobStart) (span : Span) (least : ℕ) where
       (gap-all (IsWindow starts span least) least (record { from = from; until = edge_of s }) (next-window from s ss h))
       (each-gap (edge_of s) ss (stands-next from s ss h))
 
-  -- a stretch behind a side lies in one of them
+  -- a stretch after a side lies in one of them
   complete-gaps : (from : Edge) (ss : List JobStart) (a b : ℤ) → from.second ≤ℤ a → a <ℤ b → b ≤ℤ span.end → pos least ≤ℤ (b -ℤ a)
       → NoneBetween ss a b → (w : Window) × Contains (gaps least (span_end span) from ss) w × (w.from.second ≤ℤ a) × (b ≤ℤ w.until.second)
   complete-gaps from [] a b le lt within long none = (

@@ -1,5 +1,5 @@
 -- What was gathered of jobs, one job after the other.
-use Rattle.std.proofs.Common.{◌≡◌, ◌∙◌, ℕ, ℤ, zero, suc, ◌+◌, ◌≤ℤ◌, Bool, true, false, cond, int_lt, fold, Option, Some, List, [], ◌∷◌, ◌++◌, length, refl, sym, ap, subst, arith}
+use Rattle.std.proofs.Common.{◌≡◌, ◌∙◌, ℕ, ℤ, suc, ◌+◌, ◌≤ℤ◌, Bool, true, false, cond, int_lt, fold, Option, Some, List, [], ◌∷◌, ◌++◌, length, sym, ap, subst, arith}
 use Rattle.std.proofs.lemmas.Int.{ints}
 use Rattle.std.proofs.lemmas.List.{append-nil}
 use Rattle.std.proofs.lemmas.List.Concat.{flat_map-append}
@@ -29,7 +29,7 @@ pub record Gathered (z : Zone) (span : Span) (most : Option ℕ) (jobs : List Sc
   pub within : g.end ≤ℤ span.end
   pub first : All (λ (s : JobStart). span.first ≤ℤ s.second) g.shown.items
 
--- one job more behind the others
+-- one job more after the others
 seen_more : (z : Zone) (span : Span) (most : Option ℕ) (place last : ℕ) (jobs : List Schedule) (seen : List Seen) (j : Schedule) (s : Seen) → last ≡ place + length jobs
     → AreSeen z span most place jobs seen → IsSeen z span most last j s → AreSeen z span most place (jobs ++ j ∷ []) (seen ++ s ∷ [])
 seen_more z span most place last [] [] j s e all one =

@@ -80,7 +80,7 @@ jobs_rise i starts up = IsStrictlyIncreasing-dedup (map (λ (s : JobStart). s.jo
 
 -- ---- meetings one by one
 
--- a meeting is put behind the others, or it isn't
+-- a meeting is put after the others, or it isn't
 pub seen_more : (old new : List Meeting) (m : Meeting) (jobs : List ℕ) (moment : Moment) → new ≡ old ++ m ∷ [] → m.jobs.items ≡ jobs → m.moment ≡ moment
     → nat_lt 1 (length m.jobs.items) ≡ true → map seen_of new ≡ map seen_of old ++ seen_if_several jobs moment
 seen_more old new m jobs moment e f g several =

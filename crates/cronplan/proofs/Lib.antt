@@ -3,8 +3,10 @@ pub mod CountedStarts
 pub mod DayCells
 pub mod Examples
 pub mod ExamplesDays
+pub mod ExamplesJobDates
 pub mod ExamplesTogether
 pub mod FilteredLists
+pub mod FoundOnce
 pub mod GapWindows
 pub mod GatheredJobs
 pub mod JobListings

@@ -47,7 +47,7 @@ earlier-le end i = at (int_lt i end) refl where
   at true h = omega (arith, ints)
   at false h = grind (arith, ints)
 
--- behind the start at a place none is earlier
+-- after the start at a place none is earlier
 late : (xs : List JobStart) (m : ℕ) (end : ℤ) → Climbs (seconds_of xs) → All (λ (s : JobStart). earlier end (second_at xs m) ≤ℤ s.second) (drop m xs)
 late [] zero end up = All-nil (λ (s : JobStart). end ≤ℤ s.second)
 late [] (suc m) end up = All-nil (λ (s : JobStart). end ≤ℤ s.second)

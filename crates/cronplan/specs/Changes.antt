@@ -18,12 +18,12 @@ change_in z span i = if int_le span.first i && int_lt i span.end then change_at 
 abbrev pub changes_in : Zone → Span → List (ℤ × ℤ) → List ClockChange
 changes_in z span changes = flat_map (λ c. change_in z span c.0) changes
 
--- a change skips the whole of an hour: that lies between the hour that the clock showed last and the one that it shows then
+-- a change skips the whole of an hour: the hour lies between the one that the clock showed last and the one that it shows then
 abbrev pub skips : ℤ → ClockChange → Bool
 skips hour c = int_lt (hour_of c.before) hour && int_lt hour (hour_of c.shown)
 
--- a change shows a second of an hour twice: the clock is put back, and the hour lies between the one that it shows then and the one that it
--- showed last, or is one of these
+-- a change shows a second of an hour twice: the clock is put back, and the hour is the one that it shows then, the one that it showed last,
+-- or lies between
 abbrev pub repeats : ℤ → ClockChange → Bool
 repeats hour c = int_le c.shown c.before && (int_le (hour_of c.shown) hour && int_le hour (hour_of c.before))
 

@@ -2,6 +2,7 @@
 use Rattle.std.specs.Prelude.{◌<◌, ℕ, ℤ, pos, if◌then◌else◌, List, sum_by}
 use Rattle.std.specs.Int.{int_div_euclid, int_rem_euclid}
 use Rattle.std.specs.Ordering.{int_eq}
+use Rattle.croner_base.specs.Calendar.{day_seconds}
 use Rattle.cronplan.specs.declared.counts.Unit.{Unit}
 use Rattle.cronplan.specs.declared.counts.Unit.TheVariants as units
 use Rattle.cronplan.specs.declared.start.JobStart.{JobStart}
@@ -11,7 +12,7 @@ abbrev pub hour_of : ℤ → ℤ
 hour_of wall = int_div_euclid wall (pos 3_600)
 
 abbrev pub date_of : ℤ → ℤ
-date_of wall = int_div_euclid wall (pos 86_400)
+date_of wall = int_div_euclid wall (pos day_seconds)
 
 -- the second of a start, the hour or the date that the clock shows then, or the hour of the day
 abbrev pub key_of : Unit → JobStart → ℤ

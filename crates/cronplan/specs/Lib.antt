@@ -1,6 +1,7 @@
 pub mod Changes
 pub mod Counts
 pub mod Days
+pub mod JobDates
 pub mod Jobs
 pub mod Listed
 pub mod Moments

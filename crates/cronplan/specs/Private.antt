@@ -4,4 +4,5 @@ pub mod Gaps
 pub mod Gathered
 pub mod Meetings
 pub mod MomentsUntil
+pub mod Once
 pub mod Placed

@@ -10,20 +10,20 @@ use crate::span::Span;
 use croner::time::table::{ClockTable, TableTime};
 use std::alloc::{AllocError, Global};
 
-/// A change of a clock: at a second it doesn't show what follows what it showed the second before.
+/// A change of a clock: at a second it shows something other than what would follow what it showed the second before.
 #[derive(Debug, Clone, Copy, PartialEq, Eq)]
 pub struct ClockChange {
     /// The second, counted from 1970-01-01T00:00:00 UTC.
     pub second: i64,
     /// What the clock shows the second before: its date and time as seconds from 1970-01-01T00:00:00.
     pub before: i64,
-    /// What it shows then.
+    /// What it shows at the change, counted the same way.
     pub shown: i64,
 }
 
 /// The changes of the clock of a table that lie in a span, in order.
 ///
-/// The only error is want of memory.
+/// The only error is lack of memory.
 pub(crate) fn changes_in(
     alloc: Global,
     table: &ClockTable,
@@ -38,7 +38,7 @@ pub(crate) fn changes_in(
     Ok(changes)
 }
 
-// Puts a change of the table behind the others, if it lies in the span.
+// Appends a change of the table to the others, if it lies in the span.
 #[tactic(auto, using(crate::proofs::SpanSeconds::span_ends))]
 fn push_change(
     changes: &mut Vec<ClockChange>,
@@ -94,14 +94,14 @@ pub(crate) fn repeats_hour(changes: &[ClockChange], hour: i64) -> bool
     false
 }
 
-// Whether the clock shows no second of an hour: it lies between the hour that it showed last and the one that it shows then.
+// Whether the clock shows no second of an hour: the hour lies between the one it showed last and the one it shows at the change.
 fn skips(change: &ClockChange, hour: i64) -> bool
     ensures { result ≡ skips hour change.now }
 {
     hour_of(change.before) < hour && hour < hour_of(change.shown)
 }
 
-// Whether the clock is put back within an hour or over it.
+// Whether the clock is put back within an hour or across it.
 fn repeats(change: &ClockChange, hour: i64) -> bool
     ensures { result ≡ repeats hour change.now }
 {

@@ -5,10 +5,11 @@ ghost use Rattle.std.specs.Ordering.{int_cmp};
 ghost use Rattle.cronplan.specs.Counts.{key_of, hour_of, date_of, starts_at, added_at, count_of, IsFrequent};
 
 use crate::start::JobStart;
+use croner_base::limits::SECONDS_PER_DAY;
 use std::alloc::{AllocError, Global};
 use std::collections::BTreeMap;
 
-/// What starts are counted by. Hours and days are those that the clock shows.
+/// The unit by which starts are counted. Hours and days are those that the clock shows.
 #[derive(Debug, Clone, Copy, PartialEq, Eq)]
 pub enum Unit {
     /// The second, counted from 1970-01-01T00:00:00 UTC.
@@ -17,13 +18,11 @@ pub enum Unit {
     Hour,
     /// The date, counted from 1970-01-01.
     Day,
-    /// The hour of whatever day, from 0 to 23.
+    /// The hour of the day, from 0 to 23, whatever its date.
     HourOfDay,
 }
 
 const SECONDS_PER_HOUR: i64 = 3_600;
-
-const SECONDS_PER_DAY: i64 = 86_400;
 
 const HOURS_PER_DAY: i64 = 24;
 
@@ -50,10 +49,10 @@ pub(crate) fn hour_of(wall: i64) -> i64
 pub(crate) fn date_of(wall: i64) -> i64
     ensures { result ≡ date_of wall }
 {
-    wall.div_euclid(SECONDS_PER_DAY)
+    wall.div_euclid(i64::from(SECONDS_PER_DAY))
 }
 
-// Counts a start in its second, hour or day, and answers how many are counted there now.
+// Counts a start in its second, hour or day, and returns how many are counted there now.
 #[tactic(auto, using(crate::proofs::CountedStarts::added_at_small))]
 fn add_start(
     counts: &mut BTreeMap<i64, u64>,
@@ -74,7 +73,7 @@ fn add_start(
 
 /// How many starts there are at each second, in each hour or on each day that has one.
 ///
-/// There may be 2^31 starts at most. The only error is want of memory.
+/// There may be 2^31 starts at most. The only error is lack of memory.
 #[tactic(auto, using(crate::proofs::CountedStarts::counted))]
 pub(crate) fn counts_by(
     alloc: Global,
@@ -91,9 +90,9 @@ pub(crate) fn counts_by(
     Ok(counts)
 }
 
-/// Whether these are more than so many on some day that the clock shows.
+/// Whether on some day that the clock shows there are more than `most` of these starts.
 ///
-/// There may be 2^31 starts at most. The only error is want of memory.
+/// There may be 2^31 starts at most. The only error is lack of memory.
 #[tactic(auto, using(crate::proofs::CountedStarts::counted))]
 pub(crate) fn is_frequent(
     alloc: Global,

@@ -23,7 +23,7 @@ const HOURS_PER_DAY: i64 = 24;
 /// An hour of a date of a clock, in a plan.
 #[derive(Debug, Clone, Copy, PartialEq, Eq)]
 pub struct HourCell {
-    /// How many starts there are in it: of an hour that the clock shows twice, those of both.
+    /// How many starts there are in it; for an hour that the clock shows twice, those of both.
     pub starts: u64,
     /// Whether the clock skips the whole of it.
     pub skipped: bool,
@@ -40,15 +40,15 @@ pub struct Day {
     pub hours: Vec<HourCell>,
     /// How many starts there are on it.
     pub starts: u64,
-    /// The moment on it that has most of them, and of equal ones the first. `None` where it has no start.
+    /// The moment on it with the most starts, and of equal ones the first. `None` where it has no start.
     pub fullest: Option<Moment>,
 }
 
 /// The dates that a clock shows in a plan, and its changes there.
 #[derive(Debug, Drop)]
 pub struct Days {
-    /// The dates one after the other, none left out: from the one at the first second of the span to the one at its last. Where the clock is put
-    /// back over midnight, as far as there are starts.
+    /// The dates in order, none left out: from the one at the first second of the span to the one at its last. Where the clock is put back
+    /// across midnight, they reach as far as there are starts.
     pub days: Vec<Day>,
     /// The changes of the clock in the span, in order.
     pub changes: Vec<ClockChange>,
@@ -66,7 +66,7 @@ struct Counted {
 impl Plan {
     /// The dates of the plan on the clock of a table, hour by hour. Each start of the plan lies in one cell.
     ///
-    /// The only error is want of memory.
+    /// The only error is lack of memory.
     pub fn days(&self, alloc: Global, table: &ClockTable) -> Result<Days, AllocError>
         ensures { IfOk result (λ days. AreDays (table_zone table.now) table.now.changes.items self.now.span self.now.starts.items days.days.items days.changes.items) }
     {
@@ -99,8 +99,8 @@ fn counts_of(alloc: Global, plan: &Plan, table: &ClockTable) -> Result<Counted, 
     })
 }
 
-// The first date of a plan: the one that the clock shows at the first second of the span, or that of a start, if one lies before it.
-fn first_date(table: &ClockTable, span: Span, starts: &[JobStart]) -> i64
+/// The first date of a plan: the one that the clock shows at the first second of the span, or that of a start, if one lies before it.
+pub(crate) fn first_date(table: &ClockTable, span: Span, starts: &[JobStart]) -> i64
     ensures date { result ≡ first_date (table_zone table.now) span starts.now }
     ensures bound { IsDateNumber result }
 {
@@ -111,8 +111,8 @@ fn first_date(table: &ClockTable, span: Span, starts: &[JobStart]) -> i64
     first
 }
 
-// The last date of a plan: the one that the clock shows at the last second of the span, or that of a start, if one lies after it.
-fn last_date(table: &ClockTable, span: Span, starts: &[JobStart]) -> i64
+/// The last date of a plan: the one that the clock shows at the last second of the span, or that of a start, if one lies after it.
+pub(crate) fn last_date(table: &ClockTable, span: Span, starts: &[JobStart]) -> i64
     ensures date { result ≡ last_date (table_zone table.now) span starts.now }
     ensures bound { IsDateNumber result }
 {
@@ -131,8 +131,8 @@ fn date_on(start: &JobStart) -> i64
     date_of(start.wall)
 }
 
-// How many dates there are from one to another.
-fn date_count(first: i64, last: i64) -> u64
+/// How many dates there are from one to another.
+pub(crate) fn date_count(first: i64, last: i64) -> u64
     requires first { IsDateNumber first }
     requires last { IsDateNumber last }
     ensures { result ≡ dates_between first last }
@@ -209,7 +209,7 @@ fn cell_at(counted: &Counted, hour: i64) -> HourCell
     }
 }
 
-// Of moments in order, the one on a date that has most starts, and of equal ones the first.
+// Of moments in order, the one on a date with the most starts, and of equal ones the first.
 fn fullest_on(moments: &[Moment], date: i64) -> Option<Moment>
     ensures { result ≡ fullest_on date moments.now }
 {

@@ -13,31 +13,32 @@ use croner::errors::CronError;
 use croner::time::table::ClockTable;
 use std::alloc::{AllocError, Global};
 
-/// A job that is left out of a plan, since it starts too often.
+/// A job that is left out of a plan because it starts too often.
 #[derive(Debug, Clone, Copy, PartialEq, Eq)]
 pub struct Frequent {
     /// Its place among the jobs, from 0.
     pub job: usize,
-    /// How many starts it has in the span; of more than `MOST_STARTS` seconds that have one, the first ones are counted.
+    /// How many starts it has in the span. If more than `MOST_STARTS` seconds have one, only those at the first `MOST_STARTS` + 1 are
+    /// counted.
     pub starts: u64,
 }
 
-// What was gathered of the jobs so far.
+// What was gathered from the jobs so far.
 #[derive(Drop)]
 struct Gathering {
     // The starts of those that are shown.
     shown: Vec<JobStart>,
     // Those that are too frequent.
     frequent: Vec<Frequent>,
-    // Up to where no start is left out of those that are shown.
+    // The second up to which no start of the shown jobs is left out.
     end: i64,
 }
 
-/// The plan of jobs in a span, on the clock of a table: the starts of those that are shown, and those that aren't, since they have more starts than
-/// so many on some day that the clock shows. Where no number is given, each job is shown.
+/// The plan of jobs in a span, on the clock of a table: the starts of the jobs that are shown, and the jobs that aren't. A job isn't shown
+/// if it has more than `most_a_day` starts on some day that the clock shows. Without that number each job is shown.
 ///
-/// The place of a job is that among the jobs. The only error is `OutOfMemory`, but for a pattern whose search was refused: none is, in the years
-/// that are searched.
+/// A job's place is its index among the jobs. The only error is `OutOfMemory`, except where the search of a pattern is refused, which
+/// doesn't happen in the searched years.
 ///
 /// ```
 /// let span = Span::new(1_806_188_400, 1_806_793_200); // a week from 2027-03-28T00:00:00 in Paris
@@ -110,7 +111,7 @@ fn name_job(gathering: &mut Gathering, place: usize, starts: &[JobStart]) -> Res
     Ok(())
 }
 
-// Shows these starts of a job, of which none is left out up to an end.
+// Shows these starts of a job; up to an end none is left out.
 fn show_starts(gathering: &mut Gathering, starts: &[JobStart], end: i64) -> Result<(), AllocError>
     ensures { OnOk result (Shows starts.now end gathering.old gathering.new) }
 {
@@ -119,7 +120,7 @@ fn show_starts(gathering: &mut Gathering, starts: &[JobStart], end: i64) -> Resu
     Ok(())
 }
 
-// Whether these starts are more than so many on some day, where there is such a number.
+// Whether on some day there are more of these starts than a number, if there is one.
 fn is_over(alloc: Global, starts: &[JobStart], most_a_day: Option<u64>) -> Result<bool, AllocError>
     requires { length starts.now ≤ 2 ^ 31 }
     ensures { IfOk result (λ b. IsTrue b ↔ IsOver most_a_day starts.now) }

@@ -26,20 +26,20 @@ use std::alloc::{AllocError, Global};
 /// When a job of a plan starts.
 #[derive(Drop)]
 pub enum Schedule {
-    /// It is the job of a crontab: as Debian's cron starts it.
+    /// The job of a crontab, as Debian's cron starts it.
     Crontab(CrontabJob),
-    /// It is a pattern: at each of its runs, once.
+    /// A pattern: it starts once at each of its runs.
     Pattern(Cron),
 }
 
-/// The most starts that are listed of one job: one more than a plan keeps.
+/// The most starts that are listed for one job: one more than a plan keeps.
 const MOST_LISTED: u32 = MOST_STARTS as u32 + 1;
 
-/// The starts of a job in a span, in order, and the second up to which none is left out: the end of the span, or that of the last of them where
-/// there are more than a plan keeps.
+/// The starts of a job in a span, in order, and the second up to which none is left out. That is the end of the span, or the second of
+/// the last start where there are more than a plan keeps.
 ///
-/// It takes the room of `MOST_STARTS` starts. The only error is `OutOfMemory`, but for a pattern whose search was refused: no search is, in the
-/// years that are searched.
+/// It takes memory for `MOST_STARTS` + 1 starts. The only error is `OutOfMemory`, except where the search of a pattern is refused,
+/// which doesn't happen in the searched years.
 pub(crate) fn starts_in(
     alloc: Global,
     schedule: &Schedule,
@@ -84,7 +84,7 @@ fn cron_starts(
     Ok((starts, end))
 }
 
-// Up to where none is left out of the starts of a job in a span, whose listing ended so.
+// The second up to which no start of a job in a span is left out, given how the listing ended.
 fn cron_end(starts: &[Start], ending: StartsEnd, span: Span) -> i64
     ensures { IsCronEnd starts.now ending span result }
 {
@@ -149,7 +149,7 @@ fn pattern_starts(
     runs_from(alloc, &mut runs, span, place)
 }
 
-// The runs of a pattern that an iterator gives which is new at the second before the span.
+// The runs of a pattern that a new iterator from the second before the span gives.
 fn runs_from(
     alloc: Global,
     runs: &mut CronIterator<TableTime<'_>>,
@@ -169,7 +169,7 @@ fn runs_from(
     Ok((starts, end))
 }
 
-// What refused a search, which may be want of memory.
+// The error that ended a search, which may be lack of memory.
 fn fault_of(fault: Option<&CronError>) -> CronError {
     match fault {
         Some(fault) => match fault.clone() {
@@ -180,7 +180,7 @@ fn fault_of(fault: Option<&CronError>) -> CronError {
     }
 }
 
-// Up to where none is left out of the runs of a pattern in a span, whose listing ended so.
+// The second up to which no run of a pattern in a span is left out, given how the listing ended.
 fn pattern_end(times: &[TableTime<'_>], ending: ListingEnd, span: Span) -> i64
     ensures { IsPatternEnd times.now ending span result }
 {

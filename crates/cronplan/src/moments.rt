@@ -15,13 +15,13 @@ use std::alloc::{AllocError, Global};
 pub struct Moment {
     /// The second, counted from 1970-01-01T00:00:00 UTC.
     pub second: i64,
-    /// What the clock shows then: its date and time as seconds from 1970-01-01T00:00:00.
+    /// What the clock shows at that second: its date and time as seconds from 1970-01-01T00:00:00.
     pub wall: i64,
-    /// How many starts there are: a job that is started twice there counts twice.
+    /// How many starts there are; a job that is started twice at that second counts twice.
     pub starts: u64,
 }
 
-/// The moments of starts that stand in order, each once, the earliest first.
+/// The moments of starts that are in order: each once, the earliest first.
 pub(crate) fn moments_of(alloc: Global, starts: &[JobStart]) -> Result<Vec<Moment>, AllocError>
     requires order { IsSorted start_cmp starts.now }
     requires few { length starts.now ≤ 2 ^ 31 }
@@ -34,7 +34,7 @@ pub(crate) fn moments_of(alloc: Global, starts: &[JobStart]) -> Result<Vec<Momen
     Ok(moments)
 }
 
-// Puts the moment of the start at a place behind the others, if no start before has its second.
+// Appends the moment of the start at a place to the others, if no start before it has its second.
 fn push_moment(
     moments: &mut Vec<Moment>,
     starts: &[JobStart],
@@ -51,7 +51,7 @@ fn push_moment(
     }
 }
 
-// Puts the moment of a start behind the others, at which these are all.
+// Appends the moment of a start, given all starts at that moment, to the others.
 fn push_new(
     moments: &mut Vec<Moment>,
     start: &JobStart,
@@ -64,7 +64,7 @@ fn push_new(
     Ok(())
 }
 
-/// The moment of a start, at which these are all.
+/// The moment of a start, given all starts at that moment.
 pub(crate) fn moment_of(start: &JobStart, starts_then: &[JobStart]) -> Moment
     requires { length starts_then.now ≤ 2 ^ 31 }
     ensures { result ≡ moment_of start.now starts_then.now }
@@ -105,7 +105,7 @@ fn is_earlier(start: &JobStart, other: &JobStart) -> bool
     start.second < other.second
 }
 
-// Of starts that stand in order, none earlier than another, those at its second.
+// Those of some starts at the second of another. They are in order, and none is earlier than that one.
 fn starts_like<'s>(later: &'s [JobStart], start: &JobStart) -> &'s [JobStart]
     requires order { IsSorted start_cmp later.now }
     requires late { All (λ s. start.now.second ≤ℤ s.second) later.now }

@@ -1,4 +1,4 @@
-//! All starts of a plan in one list, and what it shows.
+//! All starts of a plan in one list, and what can be asked of it.
 ghost use Rattle.std.specs.Prelude.{◌≡◌, ◌≤◌, ◌≤ℤ◌, ℤ, IfOk, length, unwrap_or};
 ghost use Rattle.std.specs.List.{All};
 ghost use Rattle.std.specs.List.Sorted.{IsSorted, IsSortedByKey};
@@ -18,13 +18,13 @@ use std::alloc::{AllocError, Global};
 use std::cmp::Reverse;
 use std::collections::BTreeMap;
 
-/// The most starts that are kept of a plan.
+/// The most starts that a plan keeps.
 pub const MOST_STARTS: usize = 100_000;
 
-/// The starts of jobs in a span, in order of their seconds, those at one second by the places of their jobs.
+/// The starts of jobs in a span, in order of their seconds, and at one second by the places of their jobs.
 ///
-/// Where there are more than `MOST_STARTS`, the span ends at the second of the first one too many: so all are kept that start in the span, and
-/// counts and windows are those of the shorter span.
+/// Where there are more than `MOST_STARTS`, the span ends at the second of the first start too many. So all starts in the span are kept,
+/// and counts and windows are those of the shorter span.
 #[derive(Debug, Drop)]
 pub struct Plan {
     pub span: Span,
@@ -46,16 +46,16 @@ impl Plan {
 
     /// How many starts there are at each second, in each hour or on each day that has one.
     ///
-    /// The only error is want of memory.
+    /// The only error is lack of memory.
     pub fn counts(&self, alloc: Global, unit: Unit) -> Result<BTreeMap<i64, u64>, AllocError>
         ensures { IfOk result (λ m. (q : ℤ) → unwrap_or (get int_cmp m q) 0 ≡ starts_at unit q self.now.starts.items) }
     {
         counts_by(alloc, self.starts.as_slice(), unit)
     }
 
-    /// The windows of the span in which nothing starts, that have so many seconds at least: the longest first, and of equal ones the earlier.
+    /// The windows of the span in which nothing starts for at least `least` seconds: the longest first, and of equal ones the earlier.
     ///
-    /// The only error is want of memory.
+    /// The only error is lack of memory.
     pub fn quiet(&self, alloc: Global, least: u64) -> Result<Vec<Window>, AllocError>
         ensures windows { IfOk result (λ w. AreWindows self.now.starts.items self.now.span least w.items) }
         ensures longest { IfOk result (λ w. IsSortedByKey seconds_in (λ a b. nat_cmp b a) w.items) }
@@ -65,9 +65,9 @@ impl Plan {
         Ok(windows)
     }
 
-    /// The fullest moments of the plan, so many at most: the one with most starts first, and of equal ones the earlier.
+    /// The fullest moments of the plan, at most `most`: the one with the most starts first, and of equal ones the earlier.
     ///
-    /// A moment is a second at which a job starts. Where there are fewer, all are given. The only error is want of memory.
+    /// A moment is a second at which a job starts. Where there are fewer, all are given. The only error is lack of memory.
     pub fn fullest(&self, alloc: Global, most: usize) -> Result<Vec<Moment>, AllocError>
         ensures { IfOk result (λ moments. AreFullest self.now.starts.items most moments.items) }
     {
@@ -78,7 +78,7 @@ impl Plan {
     }
 }
 
-// The starts of a span in their order, and the span, which ends at the second of the first one too many, if there is one.
+// The starts of a span in order, and the span. It ends at the second of the first start too many, if there is one.
 fn merged(mut starts: Vec<JobStart>, span: Span) -> (Vec<JobStart>, Span)
     requires { All (λ s. span.first ≤ℤ s.second) starts.items }
     ensures starts { Merges starts.items span.first span.end result.0.items result.1 }
@@ -95,7 +95,7 @@ fn merged(mut starts: Vec<JobStart>, span: Span) -> (Vec<JobStart>, Span)
     (starts, span)
 }
 
-/// The earlier of two seconds, of which the second one may be none.
+/// The earlier of two seconds, or the first where there is no other.
 pub(crate) fn earlier(end: i64, other: Option<i64>) -> i64
     ensures { result ≡ earlier end other }
 {

@@ -2,13 +2,14 @@
 ghost use Rattle.std.specs.Prelude.{◌≡◌, ◌-ℤ◌, pos, false, IsTrue, MatchOption};
 ghost use Rattle.cronplan.specs.Spans.{is_span};
 
-/// The first second that a span may have: -9999-01-01T00:00:01 UTC.
-const FIRST_SECOND: i64 = -377_705_116_799;
+/// The earliest second with which a span may begin: -9999-01-01T00:00:01 UTC.
+pub const EARLIEST_FIRST: i64 = -377_705_116_799;
 
-/// The last second that it may end with, which isn't in it: 9999-12-31T23:59:59 UTC.
-const LAST_SECOND: i64 = 253_402_300_799;
+/// The latest second with which a span may end, which isn't in it: 9999-12-31T23:59:59 UTC.
+pub const LATEST_END: i64 = 253_402_300_799;
 
-/// The seconds from `first` on up to, and without, `end`: each counted from 1970-01-01T00:00:00 UTC. There is none where the two are one.
+/// The seconds from `first` up to but not including `end`, each counted from 1970-01-01T00:00:00 UTC. Where the two are equal, there is
+/// none.
 #[derive(Debug, Clone, Copy, PartialEq, Eq)]
 pub struct Span {
     pub first: i64,
@@ -17,19 +18,19 @@ pub struct Span {
 }
 
 impl Span {
-    /// The span from a second on up to another. `None` where that is earlier, or where it leaves the seconds from -377,705,116,799 to 253,402,300,799, nearly all of the UTC
-    /// years -9999 to 9999.
+    /// The span from a second on up to another. `None` where that is earlier, or where it begins before `EARLIEST_FIRST` or ends behind `LATEST_END`,
+    /// nearly the UTC years -9999 to 9999.
     pub fn new(first: i64, end: i64) -> Option<Span>
         ensures { MatchOption result (is_span first end ≡ false) (λ s. (s.first ≡ first) × (s.end ≡ end)) }
     {
-        if FIRST_SECOND <= first && first <= end && end <= LAST_SECOND {
+        if EARLIEST_FIRST <= first && first <= end && end <= LATEST_END {
             Some(Span { first, end })
         } else {
             None
         }
     }
 
-    // The last second up to which a search goes: the one before its end.
+    // The last second of a search: the one before its end.
     #[tactic(auto, using(crate::proofs::SpanSeconds::span_ends))]
     pub(crate) fn until(self) -> Option<i64>
         ensures { result ≡ Some (self.end -ℤ pos 1) }

@@ -1,13 +1,13 @@
 //! The starts of a plan.
 
-/// What starts of a job at one second. Starts are ordered by their second, and at one second by the places of their jobs.
+/// The starts of a job at one second. They are ordered by their second, and at one second by the places of their jobs.
 #[derive(Debug, Clone, Copy, PartialEq, Eq, PartialOrd, Ord)]
 pub struct JobStart {
     /// The second, counted from 1970-01-01T00:00:00 UTC.
     pub second: i64,
     /// The place of the job among the jobs of the plan, from 0.
     pub job: usize,
-    /// How many times it is started there.
+    /// How many times it is started then.
     pub count: u32,
     /// What the clock shows then: its date and time as seconds from 1970-01-01T00:00:00.
     pub wall: i64,

@@ -13,12 +13,12 @@ use crate::start::JobStart;
 use std::alloc::{AllocError, Global};
 use std::cmp::Reverse;
 
-/// Jobs that start at one moment, where no other job of the plan does.
+/// Jobs that start at the same moments, at which no other job of the plan starts.
 #[derive(Debug, Drop)]
 pub struct Together {
     /// Their places among the jobs, from 0, in rising order: two or more.
     pub jobs: Vec<usize>,
-    /// How many moments of the plan there are at which just these jobs start.
+    /// At how many moments of the plan exactly these jobs start.
     pub moments: u64,
     /// The first of these moments.
     pub first: Moment,
@@ -33,10 +33,10 @@ struct Meeting {
 }
 
 impl Plan {
-    /// The sets of two or more different jobs that start together, each once: for each moment of the plan at which there are several, those that
-    /// start there. The set with most moments comes first, and of equal ones the one whose first moment is earlier.
+    /// The sets of two or more different jobs that start together: for each moment of the plan at which several jobs start, the set of
+    /// these. Each set comes once, the one with the most moments first, and of equal ones the one whose first moment is earlier.
     ///
-    /// A job that the plan names as too frequent is in none of them. The only error is want of memory.
+    /// A job that the plan names as too frequent is in none of them. The only error is lack of memory.
     pub fn together(&self, alloc: Global) -> Result<Vec<Together>, AllocError>
         ensures { IfOk result (λ sets. AreTogether self.now.starts.items sets.items) }
     {
@@ -47,7 +47,7 @@ impl Plan {
     }
 }
 
-// The moments of starts that stand in order at which several jobs start, by these jobs; those with the same jobs one after the other.
+// The moments at which several jobs start, sorted by their jobs, so that those with the same jobs are neighbours. The starts are in order.
 fn meetings_by_jobs(alloc: Global, starts: &[JobStart]) -> Result<Vec<Meeting>, AllocError>
     requires order { IsSorted start_cmp starts.now }
     requires few { length starts.now ≤ 2 ^ 31 }
@@ -58,7 +58,7 @@ fn meetings_by_jobs(alloc: Global, starts: &[JobStart]) -> Result<Vec<Meeting>, 
     Ok(meetings)
 }
 
-// The moments of starts that stand in order at which several jobs start, the earliest first.
+// The moments at which several jobs start, the earliest first. The starts are in order.
 fn meetings_of(alloc: Global, starts: &[JobStart]) -> Result<Vec<Meeting>, AllocError>
     requires order { IsSorted start_cmp starts.now }
     requires few { length starts.now ≤ 2 ^ 31 }
@@ -71,7 +71,7 @@ fn meetings_of(alloc: Global, starts: &[JobStart]) -> Result<Vec<Meeting>, Alloc
     Ok(meetings)
 }
 
-// Puts the moment of the start at a place behind the others, if no start before has its second, and several jobs start there.
+// Appends the moment of the start at a place to the others, if no start before it has its second, and several jobs start there.
 fn push_meeting(
     alloc: Global,
     meetings: &mut Vec<Meeting>,
@@ -89,7 +89,7 @@ fn push_meeting(
     }
 }
 
-// Puts the moment of a start behind the others, at which these are all, if several jobs start there.
+// Appends the moment of a start, given all starts at that moment, to the others, if several jobs start there.
 fn push_if_several(
     alloc: Global,
     meetings: &mut Vec<Meeting>,
@@ -106,7 +106,7 @@ fn push_if_several(
     Ok(())
 }
 
-// The moment of a start, at which these are all, with their jobs.
+// The moment of a start, given all starts at that moment, with their jobs.
 fn meeting_of(
     alloc: Global,
     start: &JobStart,
@@ -127,7 +127,7 @@ fn are_several(jobs: &[usize]) -> bool
     jobs.len() > 1
 }
 
-// The places of the jobs of starts, of neighbours with one job once.
+// The places of the jobs of starts; neighbours with the same job give it once.
 fn jobs_of(alloc: Global, starts: &[JobStart]) -> Result<Vec<usize>, AllocError>
     ensures { IfOk result (λ jobs. jobs.items ≡ jobs_of starts.now) }
 {
@@ -146,7 +146,7 @@ fn places_of(alloc: Global, starts: &[JobStart]) -> Result<Vec<usize>, AllocErro
     Ok(places)
 }
 
-// The sets of the jobs of meetings that stand in order of them.
+// The sets of the jobs of meetings, which are sorted by their jobs.
 fn sets_of(alloc: Global, meetings: &[Meeting]) -> Result<Vec<Together>, AllocError>
     requires { IsSortedBy is_lower meetings.now }
     ensures { IfOk result (λ sets. AreSets meetings.now sets.items) }
@@ -158,7 +158,7 @@ fn sets_of(alloc: Global, meetings: &[Meeting]) -> Result<Vec<Together>, AllocEr
     Ok(sets)
 }
 
-// Puts the jobs of the meeting at a place behind the others, if no meeting before has them.
+// Appends the jobs of the meeting at a place to the others, if no meeting before it has them.
 fn push_set(
     alloc: Global,
     sets: &mut Vec<Together>,
@@ -223,7 +223,7 @@ fn is_lower(meeting: &Meeting, other: &Meeting) -> bool
     meeting.jobs.cmp(&other.jobs).is_lt()
 }
 
-// Of meetings that stand in order of their jobs, none with lower ones than these, those with them.
+// Those of some meetings that have the jobs of another. They are sorted by their jobs, and none has lower ones.
 fn alike<'m>(later: &'m [Meeting], meeting: &Meeting) -> &'m [Meeting]
     requires order { IsSortedBy is_lower later.now }
     requires late { All (λ m. is_lower m meeting.now ≡ false) later.now }

@@ -13,9 +13,9 @@ use std::alloc::{AllocError, Global};
 /// What bounds a window on one side.
 #[derive(Debug, Clone, Copy, PartialEq, Eq)]
 pub enum Bound {
-    /// A start lies at this second.
+    /// There is a start at this second.
     Start,
-    /// The span begins or ends there, and the window may be longer.
+    /// The span begins or ends there, so the window may be longer.
     Span,
 }
 
@@ -27,7 +27,7 @@ pub struct Edge {
     pub bound: Bound,
 }
 
-/// A window of a span: no start lies between its two sides, nor at the first second of the span, where it begins with that.
+/// A window of a span: no start lies between its two sides. Where it begins with the span, none lies at the span's first second either.
 #[derive(Debug, Clone, Copy, PartialEq, Eq)]
 pub struct Window {
     /// Where it begins: at a start, or with the span.
@@ -37,7 +37,7 @@ pub struct Window {
 }
 
 impl Window {
-    /// How many seconds it is from one side to the other. From a start to the next one it counts the second of the first.
+    /// How many seconds it is from one side to the other. From a start to the next one the first start's own second is counted.
     pub fn seconds(&self) -> u64
         ensures { result ≡ seconds_in self.now }
     {
@@ -45,7 +45,7 @@ impl Window {
     }
 }
 
-/// The windows of a span between these starts, in order, that have so many seconds at least.
+/// The windows of a span between these starts that have at least `least` seconds, in order.
 pub(crate) fn windows_between(
     alloc: Global,
     starts: &[JobStart],
@@ -67,7 +67,7 @@ pub(crate) fn windows_between(
     gaps_between(alloc, starts, first, end, least)
 }
 
-// From one side to another, the windows that these starts leave, in order, that have so many seconds at least.
+// The windows from one side to another between these starts that have at least `least` seconds, in order.
 #[tactic(auto, using(crate::proofs::GapWindows::gaps_step))]
 fn gaps_between(
     alloc: Global,
@@ -99,7 +99,7 @@ fn edge_of(start: JobStart) -> Edge
     }
 }
 
-// Puts a window behind the others, if it is so long.
+// Appends a window to the others, if it is long enough.
 fn push_gap(windows: &mut Vec<Window>, window: Window, least: u64) -> Result<(), AllocError>
     ensures { OnOk result (windows.new.items ≡ windows.old.items ++ gap least window) }
 {
@@ -109,7 +109,7 @@ fn push_gap(windows: &mut Vec<Window>, window: Window, least: u64) -> Result<(),
     Ok(())
 }
 
-// Whether a window has a second, and so many at least.
+// Whether a window has a second at all, and at least so many.
 fn is_long(window: Window, least: u64) -> bool
     ensures { result ≡ is_long least window }
 {

@@ -1,11 +1,16 @@
 -- Worked rows of what a plan answers, computed from the definitions.
-use Rattle.std.proofs.Common.{◌≡◌, pos, true, false, List, [], ◌∷◌, refl}
+use Rattle.std.proofs.Common.{◌≡◌, ◌<◌, ℕ, pos, true, false, [], ◌∷◌, ◌++◌, arith, refl}
 use Rattle.std.specs.Fmt.{digits}
 use Rattle.std.specs.Prelude.{codes}
-use Rattle.cronplan_forms.specs.Answers.{starts_text, hour_line, times_text, joined, joined_behind, added_label, cut_line}
-use Rattle.cronplan_forms.specs.Clocks.{ahead_text, clock_text}
+use Rattle.croner_base.specs.declared.time.civil.Weekday.TheVariants as weekdays
+use Rattle.cronplan.specs.declared.windows.Bound.{Bound}
+use Rattle.cronplan.specs.declared.windows.Bound.TheVariants as bounds
+use Rattle.cronplan_forms.specs.declared.answers.quiet.ShownWindow.{ShownWindow}
+use Rattle.cronplan_forms.specs.declared.clock.ClockTime.{ClockTime}
+use Rattle.cronplan_forms.specs.Answers.{starts_text, hour_line, times_text, joined, joined_behind, added_label, cut_line, window_text}
+use Rattle.cronplan_forms.specs.Apart.{set_apart}
+use Rattle.cronplan_forms.specs.Clocks.{ahead_text, clock_text, lasting_text}
 use Rattle.cronplan_forms.specs.DateNames.{month_text}
-use Rattle.cronplan_forms.specs.Questions.{set_apart}
 use Rattle.cronplan_forms.specs.Weeks.{is_put_forward}
 
 one_start : starts_text 1 ≡ codes "1 start"
@@ -35,6 +40,37 @@ two_jobs = refl
 
 at_one_moment : times_text 1 ≡ codes "  once"
 at_one_moment = refl
+
+at_seven_moments : times_text 7 ≡ codes "  7 times"
+unfolding digits
+at_seven_moments = refl
+
+-- ---- windows
+
+-- 2027-03-28, a Sunday, at an hour of it, on a clock that is two hours ahead
+abbrev at_hour : (hour : ℕ) → hour < 24 → ℕ → ClockTime
+at_hour hour held second = record {
+  second = pos second;
+  weekday = weekdays.Sunday;
+  civil = record {
+    date = record { year = pos 2_027; month = 3; day = 28; real = ((omega arith, omega arith), (omega arith, omega arith)) };
+    time = record { hour = hour; minute = 30; second = 0; hour_in = held; minute_in = omega arith; second_in = omega arith };
+  };
+  ahead = record { seconds = pos 7_200 };
+}
+
+-- from 03:30 to 09:30, between two starts, and where the plan ends with it
+abbrev window : Bound → ShownWindow
+window end = record {
+  window = record { from = record { second = pos 1_806_197_400; bound = bounds.Start }; until = record { second = pos 1_806_219_000; bound = end } };
+  from = at_hour 3 (omega arith) 1_806_197_400;
+  until = at_hour 9 (omega arith) 1_806_219_000;
+}
+
+windows : (window_text (window bounds.Start) ≡ codes "Sun 2027-03-28 03:30:00 +02:00 to Sun 2027-03-28 09:30:00 +02:00  " ++ (lasting_text 21_600 ++ []))
+    × (window_text (window bounds.Span) ≡ codes "Sun 2027-03-28 03:30:00 +02:00 to Sun 2027-03-28 09:30:00 +02:00  " ++ (lasting_text 21_600 ++ codes " or longer"))
+unfolding digits
+windows = (refl, refl)
 
 -- an empty line stands between two answers, and none around one
 two_answers : set_apart (codes "a\n") (codes "b\n") ≡ codes "a\n\nb\n"

@@ -46,7 +46,7 @@ behind (b ∷ bs) rest n m e h k =
 size_of : (c n : ℕ) → n + length (encode_utf8 c) ≡ n + len_utf8 c
 size_of c n = ap (λ k. n + k) (length-encode c)
 
--- a fold behind so many bytes, and a line that begins with its space
+-- a fold after so many bytes, and a line that begins with its space
 behind_fold : (rest : List ℕ) (n : ℕ) → n ≤ 75 → are_short 1 rest ≡ true → are_short n (fold_text ++ rest) ≡ true
 behind_fold rest n h k =
     let first : nat_lt n 77 ≡ true = grind (arith, nat_tests) in

@@ -3,10 +3,13 @@ pub mod EscapedTexts
 pub mod Events
 pub mod FoldedLines
 pub mod Gathered
+pub mod MonthGrids
 pub mod MonthParts
+pub mod TitleDates
 pub mod UtcClock
 pub mod WeekParts
 mod ExamplesAnswers
+mod ExamplesCalendar
 mod ExamplesEscapes
 mod ExamplesMonths
 mod ExamplesWeeks

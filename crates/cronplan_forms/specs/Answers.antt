@@ -190,7 +190,7 @@ labels_of jobs = map label_text jobs
 abbrev pub label_at : List (List ℕ) → ℕ → List ℕ
 label_at labels k = title_or_none (slice_get labels k)
 
--- those of the jobs at these places behind the first
+-- those of the jobs at these places after the first
 unfoldable pub added_label : List (List ℕ) → ℕ → List ℕ
 added_label labels k = codes " + " ++ label_at labels k
 

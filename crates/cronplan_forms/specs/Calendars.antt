@@ -1,5 +1,5 @@
--- The starts of jobs as a calendar. Sources: RFC 5545, sections 3.4, 3.6.1, 3.7 and 3.8; RFC 7986, section 5.1 (NAME); RFC 9562, section 5.5
--- (UUIDs of version 5); and this crate's documentation.
+-- The starts of jobs as a calendar. Sources: RFC 5545, sections 3.4, 3.6.1, 3.7 and 3.8; RFC 7986, section 5.1 (NAME); RFC 9562, section
+-- 5.5 (UUIDs of version 5); and this crate's documentation.
 use Rattle.std.specs.Prelude.{ℕ, ℤ, nat_le, ◌==◌, List, [], ◌∷◌, ◌++◌, take, codes, Option, Some, None, if◌then◌else◌}
 use Rattle.std.specs.Fmt.{decimal, signed_decimal}
 use Rattle.std.specs.List.{flat_map}
@@ -64,7 +64,7 @@ times_text count = if count == 1 then [] else codes " (" ++ (decimal count ++ co
 unfoldable pub summary_text : Event → List ℕ
 summary_text e = e.job.title.now ++ times_text e.start.count
 
--- the words for a job's times, and behind a line feed its file and line
+-- the words for a job's times, and after a line feed its file and line
 unfoldable pub words_text : Job → List ℕ
 words_text job = job.words.now ++ (codes "\n" ++ (job.file.now ++ (codes ":" ++ decimal job.line)))
 

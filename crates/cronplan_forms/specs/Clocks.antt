@@ -11,7 +11,7 @@ use Rattle.cronplan_forms.specs.declared.clock.ClockTime.{ClockTime}
 
 -- ---- offsets
 
--- seconds behind hours and minutes: nothing where there are none
+-- seconds after hours and minutes: nothing where there are none
 abbrev pub odd_seconds : ℕ → List ℕ
 odd_seconds n = if n == 0 then [] else 58 ∷ two_places n
 
@@ -29,7 +29,7 @@ ahead_text ahead = sign_text ahead ++ clock_length (unsigned_abs ahead)
 
 -- ---- the clock
 
--- the front of a weekday's name, by how many days it comes behind Sunday
+-- the front of a weekday's name, by how many days it comes after Sunday
 abbrev pub weekday_text : ℕ → List ℕ
 weekday_text n =
     if n == 0 then codes "Sun"

@@ -15,11 +15,11 @@ line_end = 13 ∷ 10 ∷ []
 abbrev pub fold_text : List ℕ
 fold_text = 13 ∷ 10 ∷ 32 ∷ []
 
--- a character finds no room behind so many bytes of its line
+-- a character doesn't fit after so many bytes of its line
 abbrev pub is_full : ℕ → ℕ → Bool
 is_full used c = nat_lt most_bytes (used + len_utf8 c)
 
--- a character behind so many bytes of its line: in the next one where it finds no room
+-- a character after so many bytes of its line: in the next one where it doesn't fit
 abbrev pub placed : ℕ → ℕ → List ℕ
 placed used c = if is_full used c then fold_text ++ encode_utf8 c else encode_utf8 c
 
@@ -27,7 +27,7 @@ placed used c = if is_full used c then fold_text ++ encode_utf8 c else encode_ut
 abbrev pub used_with : ℕ → ℕ → ℕ
 used_with used c = if is_full used c then 1 + len_utf8 c else used + len_utf8 c
 
--- characters that begin behind so many bytes of a line
+-- characters that begin after so many bytes of a line
 abbrev pub folded : ℕ → List ℕ → List ℕ
 folded used [] = []
 folded used (c ∷ cs) = placed used c ++ folded (used_with used c) cs

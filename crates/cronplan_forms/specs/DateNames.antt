@@ -1,10 +1,10 @@
 -- Dates as they are called. Source: this crate's documentation.
 use Rattle.std.specs.Prelude.{◌≡◌, ◌==◌, ℕ, ℤ, pos, ◌*ℤ◌, MatchOption, FitsSigned, List, ◌∷◌, ◌++◌, codes, Option, Some, None, if◌then◌else◌}
 use Rattle.std.specs.Fmt.{signed_decimal}
-use Rattle.std.specs.Int.{saturate_signed}
+use Rattle.std.specs.Int.{int_div_euclid, saturate_signed}
 use mir.Syntax.{w32, w64}
 use Rattle.croner_base.specs.declared.time.civil.CivilDateTime.{CivilDateTime}
-use Rattle.croner_base.specs.Calendar.{weekday_of_day}
+use Rattle.croner_base.specs.Calendar.{day_seconds, weekday_of_day}
 use Rattle.croner_base.specs.Civil.{wall_second, weekday_index}
 use Rattle.croner_base.specs.CivilText.{two_places}
 use Rattle.cronplan_forms.specs.declared.date_name.DateName.{DateName}
@@ -12,7 +12,11 @@ use Rattle.cronplan_forms.specs.Clocks.{weekday_text}
 
 -- the wall second with which a date begins
 abbrev pub second_of_date : ℤ → ℤ
-second_of_date date = saturate_signed w64 (date *ℤ pos 86_400)
+second_of_date date = saturate_signed w64 (date *ℤ pos day_seconds)
+
+-- the date of a wall second
+abbrev pub date_of_wall : ℤ → ℤ
+date_of_wall wall = int_div_euclid wall (pos day_seconds)
 
 -- it names this date: by its weekday, and by the date and time of its begin, which each has that a year of 32 bits has
 pub record IsDateName (date : ℤ) (d : DateName) : Type 0 where

@@ -7,7 +7,7 @@ use Rattle.std.specs.Str.{chars}
 use Rattle.cronplan_forms.specs.declared.escapes.Form.{Form}
 use Rattle.cronplan_forms.specs.declared.escapes.Form.TheVariants as forms
 
--- what stands in a TEXT for a character that doesn't stand for itself: a backslash, a semicolon, a comma and a line feed
+-- what a TEXT has in place of a backslash, a semicolon, a comma and a line feed
 abbrev pub text_escape : ℕ → Option (List ℕ)
 text_escape c =
     if c == 92 then Some (codes "\\\\")

@@ -1,4 +1,5 @@
 pub mod Answers
+pub mod Apart
 pub mod Calendars
 pub mod Clocks
 pub mod ContentLines
@@ -6,5 +7,7 @@ pub mod DateNames
 pub mod Escapes
 pub mod Months
 pub mod PlanCalendars
+pub mod PlanMonths
 pub mod Questions
 pub mod Weeks
+pub mod Private

@@ -1,6 +1,5 @@
 -- The grid of a month as text. Source: this crate's documentation.
-use Rattle.std.specs.Prelude.{ℕ, ◌+◌, ◌-◌, ◌*◌, ◌/◌, ◌%◌, ◌==◌, ◌||◌, nat_lt, nat_le, Bool, false, List, [], ◌∷◌, ◌++◌, length, take, replicate, slice_get, codes, encode_utf8, Option, Some, None, if◌then◌else◌}
-use Rattle.std.specs.Borrow.{Bor}
+use Rattle.std.specs.Prelude.{ℕ, ◌+◌, ◌-◌, ◌*◌, ◌/◌, ◌%◌, ◌==◌, ◌||◌, nat_lt, nat_le, Bool, false, not, List, [], ◌∷◌, ◌++◌, length, take, fold, replicate, slice_get, codes, encode_utf8, Option, Some, None, if◌then◌else◌}
 use Rattle.std.specs.Fmt.{decimal}
 use Rattle.std.specs.List.{flat_map, list_any, range_with_len}
 use Rattle.std.specs.Str.{chars}
@@ -8,6 +7,8 @@ use Rattle.croner_base.specs.Excerpt.{is_control, ends_a_line}
 use Rattle.cronplan_forms.specs.declared.month.Daily.{Daily}
 use Rattle.cronplan_forms.specs.declared.month.Month.{Month}
 use Rattle.cronplan_forms.specs.declared.month.MonthDay.{MonthDay}
+use Rattle.cronplan_forms.specs.declared.month.Titled.{Titled}
+use Rattle.cronplan_forms.specs.Apart.{set_apart}
 
 -- ---- texts
 
@@ -33,7 +34,7 @@ cell_width = 10
 abbrev pub most_titles : ℕ
 most_titles = 3
 
--- spaces behind so many characters of a cell, as far as it has room
+-- spaces after so many characters of a cell, as far as it has room
 unfoldable pub fill : ℕ → List ℕ
 fill used = replicate (cell_width - used) 32
 
@@ -41,13 +42,23 @@ fill used = replicate (cell_width - used) 32
 unfoldable pub date_cell : ℕ → List ℕ
 date_cell date = decimal date ++ fill (length (decimal date))
 
+-- one that isn't in the plan, with a mark
+unfoldable pub marked_date : ℕ → List ℕ
+marked_date date = decimal date ++ codes " -"
+
+unfoldable pub marked_cell : ℕ → List ℕ
+marked_cell date = marked_date date ++ fill (length (marked_date date))
+
+abbrev pub date_cell_of : Bool → ℕ → List ℕ
+date_cell_of is_in_plan date = if is_in_plan then date_cell date else marked_cell date
+
 -- a title, or nothing
 unfoldable pub title_cell : List ℕ → List ℕ
 title_cell title = cut_text cell_width title ++ fill (length (chars title))
 
-abbrev pub title_cell_of : Option (Bor (List ℕ)) → List ℕ
+abbrev pub title_cell_of : Option Titled → List ℕ
 title_cell_of None = fill 0
-title_cell_of (Some title) = title_cell title.now
+title_cell_of (Some t) = title_cell t.title.now
 
 -- how many of so many titles are left besides those that are shown, where there are more
 unfoldable pub left_cell : ℕ → List ℕ
@@ -56,11 +67,11 @@ left_cell count =
     else codes "+" ++ (decimal (count - most_titles) ++ fill (1 + length (decimal (count - most_titles))))
 
 -- what a day has on a line of its week: on line 0 its date, on the lines 1 to 3 its first titles, on line 4 how many are left
-unfoldable pub day_cell : List (Bor (List ℕ)) → ℕ → ℕ → List ℕ
-day_cell titles date line =
-    if line == 0 then date_cell date
-    else if line == 4 then left_cell (length titles)
-    else title_cell_of (slice_get titles (line - 1))
+unfoldable pub day_cell : MonthDay → ℕ → ℕ → List ℕ
+day_cell d date line =
+    if line == 0 then date_cell_of d.is_in_plan date
+    else if line == 4 then left_cell (length d.titles.now)
+    else title_cell_of (slice_get d.titles.now (line - 1))
 
 -- ---- places: seven a week, from the Monday of the first week on
 
@@ -71,7 +82,7 @@ places_before m = m.first_weekday % 7
 -- the day with this number, from 0: what it has on a line, and whether it has something there
 abbrev pub cell_of : Option MonthDay → ℕ → ℕ → List ℕ
 cell_of None date line = fill 0
-cell_of (Some d) date line = day_cell d.titles.now date line
+cell_of (Some d) date line = day_cell d date line
 
 abbrev pub has_line_of : Option MonthDay → ℕ → Bool
 has_line_of None line = false
@@ -146,6 +157,24 @@ headed_lines daily = codes "Every day:\n" ++ daily_lines daily
 unfoldable pub daily_text : List Daily → List ℕ
 daily_text daily = if length daily == 0 then [] else headed_lines daily
 
--- the grid, and below it what starts on every day
+-- ---- months
+
+-- the grid
 unfoldable pub month_text : Month → List ℕ
-month_text m = head_text m ++ (weeks_text m ++ daily_text m.daily.now)
+month_text m = head_text m ++ weeks_text m
+
+-- grids one below the other, with an empty line between two
+abbrev pub grids_text : List Month → List ℕ
+grids_text months = fold (λ text m. set_apart text (month_text m)) [] months
+
+-- some day of a month isn't in the plan
+abbrev pub has_marks : Month → Bool
+has_marks m = list_any (λ d. not d.is_in_plan) m.days.now
+
+-- what the mark means, where it stands
+abbrev pub mark_text : Bool → List ℕ
+mark_text is_marked = if is_marked then codes "-: not in the plan\n" else []
+
+-- grids, and below them what the mark means and what starts on every day
+abbrev pub months_text : List Month → List Daily → List ℕ
+months_text months daily = grids_text months ++ (mark_text (list_any has_marks months) ++ daily_text daily)

@@ -1,24 +1,33 @@
 -- What is asked of a plan, and what it answers. Source: this crate's documentation of `Questions`.
-use Rattle.std.specs.Prelude.{◌≡◌, ◌==◌, ℕ, Bool, true, false, not, ◌&&◌, List, [], ◌∷◌, ◌++◌, length, Option, Some, None, is_none, if◌then◌else◌}
+use Rattle.std.specs.Prelude.{◌≡◌, ℕ, Bool, true, false, not, ◌&&◌, List, [], Option, Some, None, is_none}
 use Rattle.croner_base.specs.TableZone.{table_zone}
 use Rattle.cronplan_forms.specs.declared.answers.busy.ShownMoment.{ShownMoment}
 use Rattle.cronplan_forms.specs.declared.answers.questions.Questions.{Questions}
 use Rattle.cronplan_forms.specs.declared.answers.quiet.ShownWindow.{ShownWindow}
 use Rattle.cronplan_forms.specs.declared.answers.together.ShownSet.{ShownSet}
+use Rattle.cronplan_forms.specs.declared.month.Daily.{Daily}
+use Rattle.cronplan_forms.specs.declared.month.Month.{Month}
 use Rattle.cronplan_forms.specs.declared.view.View.{View}
 use Rattle.cronplan_forms.specs.declared.week.Signs.{Signs}
 use Rattle.cronplan_forms.specs.Answers.{IsQuiet, quiet_text, IsBusy, busy_text, IsTogetherShown, labels_of, together_text, titles_of, left_out_text}
+use Rattle.cronplan_forms.specs.Apart.{set_apart}
+use Rattle.cronplan_forms.specs.Months.{months_text}
+use Rattle.cronplan_forms.specs.PlanMonths.{ArePlanMonths}
 use Rattle.cronplan_forms.specs.Weeks.{PlanWeek, IsPlanWeek, week_text}
 
 -- nothing is asked
 abbrev pub asks_none : Questions → Bool
-asks_none q = is_none q.week && is_none q.quiet && is_none q.busy && not q.together
+asks_none q = is_none q.week && not q.month && is_none q.quiet && is_none q.busy && not q.together
 
 -- ---- the answers: no text where it isn't asked
 
 abbrev pub IsWeekAnswer : View → Option Signs → List ℕ → Type 0
 IsWeekAnswer v None text = text ≡ []
 IsWeekAnswer v (Some signs) text = (week : PlanWeek) × IsPlanWeek v.table.now v.plan.now week × (text ≡ week_text signs week)
+
+abbrev pub IsMonthAnswer : View → Bool → List ℕ → Type 0
+IsMonthAnswer v false text = text ≡ []
+IsMonthAnswer v true text = (months : List Month) × (daily : List Daily) × ArePlanMonths v months daily × (text ≡ months_text months daily)
 
 abbrev pub IsQuietAnswer : View → Option ℕ → List ℕ → Type 0
 IsQuietAnswer v None text = text ≡ []
@@ -36,19 +45,17 @@ IsTogetherAnswer v true text =
 
 -- ---- all of them
 
--- a text behind another one, with an empty line between where there is anything of both
-abbrev pub set_apart : List ℕ → List ℕ → List ℕ
-set_apart text part = if not (length text == 0) && not (length part == 0) then text ++ (10 ∷ part) else text ++ part
-
 -- what a plan leaves out, and its answers
 pub record IsAnswers (v : View) (asked : Questions) (text : List ℕ) : Type 0 where
   pub week : List ℕ
+  pub month : List ℕ
   pub quiet : List ℕ
   pub busy : List ℕ
   pub together : List ℕ
   pub week_is : IsWeekAnswer v asked.week week
+  pub month_is : IsMonthAnswer v asked.month month
   pub quiet_is : IsQuietAnswer v asked.quiet quiet
   pub busy_is : IsBusyAnswer v asked.busy busy
   pub together_is : IsTogetherAnswer v asked.together together
   pub text_is : text
-      ≡ set_apart (set_apart (set_apart (set_apart (left_out_text v.is_cut (titles_of v.jobs.now) v.frequent.now) week) quiet) busy) together
+      ≡ set_apart (set_apart (set_apart (set_apart (set_apart (left_out_text v.is_cut (titles_of v.jobs.now) v.frequent.now) week) month) quiet) busy) together

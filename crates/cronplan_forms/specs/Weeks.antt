@@ -1,10 +1,11 @@
 -- The dates of a plan as a picture of text. Source: this crate's documentation.
 use Rattle.std.specs.Prelude.{◌≡◌, ℕ, ℤ, pos, ◌+◌, ◌==◌, ◌+ℤ◌, int_lt, nat_lt, unsigned_abs, Bool, List, [], ◌∷◌, ◌++◌, codes, map, Option, Some, None, if◌then◌else◌}
 use Rattle.std.specs.Fmt.{decimal}
-use Rattle.std.specs.Int.{int_div_euclid, int_rem_euclid, saturate_signed}
+use Rattle.std.specs.Int.{int_rem_euclid, saturate_signed}
 use Rattle.std.specs.List.{All, flat_map}
 use mir.Syntax.{w64}
 use Rattle.croner_base.specs.declared.time.table.ClockTable.{ClockTable}
+use Rattle.croner_base.specs.Calendar.{day_seconds}
 use Rattle.croner_base.specs.TableZone.{table_zone}
 use Rattle.cronplan.specs.declared.changes.ClockChange.{ClockChange}
 use Rattle.cronplan.specs.declared.counts.Unit.TheVariants as units
@@ -21,7 +22,7 @@ use Rattle.cronplan_forms.specs.declared.week.changes.NamedWall.{NamedWall}
 use Rattle.cronplan_forms.specs.declared.week.changes.ShownChange.{ShownChange}
 use Rattle.cronplan_forms.specs.Answers.{starts_text}
 use Rattle.cronplan_forms.specs.Clocks.{clock_text}
-use Rattle.cronplan_forms.specs.DateNames.{IsDateName, date_name_text}
+use Rattle.cronplan_forms.specs.DateNames.{IsDateName, date_name_text, date_of_wall}
 
 -- ---- signs
 
@@ -67,11 +68,11 @@ sign_of s cell = if cell.skipped then codes "x" else step_sign s cell.starts
 
 -- the second of the day that a wall second is
 abbrev pub second_of_day : ℤ → ℕ
-second_of_day wall = unsigned_abs (int_rem_euclid wall (pos 86_400))
+second_of_day wall = unsigned_abs (int_rem_euclid wall (pos day_seconds))
 
 -- ---- rows
 
--- the signs of hours, a space behind each
+-- the signs of hours, a space after each
 unfoldable pub cells_text : Signs → List HourCell → List ℕ
 cells_text s cells = flat_map (λ cell. sign_of s cell ++ codes " ") cells
 
@@ -122,10 +123,6 @@ picture_text s days = head_text ++ (rows_text s days ++ legend_text s)
 -- the wall second that would follow what the clock showed last
 abbrev pub behind : ClockChange → ℤ
 behind c = saturate_signed w64 (c.before +ℤ pos 1)
-
--- the date of a wall second
-abbrev pub date_of_wall : ℤ → ℤ
-date_of_wall wall = int_div_euclid wall (pos 86_400)
 
 -- the clock is put forward: it shows a later time than the second before
 abbrev pub is_put_forward : ClockChange → Bool

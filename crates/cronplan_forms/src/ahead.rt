@@ -4,7 +4,7 @@ ghost use Rattle.cronplan_forms.specs.Clocks.{sign_text};
 
 use std::fmt;
 
-/// Seconds ahead of UTC as hours, minutes and, where there are some, seconds: `+02:00`. They are behind UTC where the number is negative.
+/// Seconds ahead of UTC as hours, minutes and, unless 0, seconds: `+02:00`. A negative number is behind UTC.
 #[derive(Debug, Clone, Copy)]
 pub struct Ahead {
     pub seconds: i64,
@@ -25,7 +25,7 @@ impl fmt::Display for Ahead {
     }
 }
 
-// So many seconds as hours, minutes and, where there are some, seconds.
+// A number of seconds as hours, minutes and, unless 0, seconds.
 #[derive(Clone, Copy)]
 struct ClockLength {
     seconds: u64,
@@ -45,7 +45,7 @@ impl fmt::Display for ClockLength {
     }
 }
 
-// The seconds behind hours and minutes; nothing where there are none.
+// The seconds after hours and minutes; nothing where there are none.
 #[derive(Clone, Copy)]
 struct OddSeconds {
     seconds: u64,

@@ -18,7 +18,7 @@ use std::alloc::{AllocError, Global};
 /// The most events of a calendar.
 pub const MOST_EVENTS: usize = 2_000;
 
-/// What a calendar tells beside its events.
+/// What a calendar says besides its events.
 #[derive(Clone, Copy)]
 pub struct Calendar<'c> {
     pub name: &'c str,
@@ -26,15 +26,16 @@ pub struct Calendar<'c> {
     pub left_out: &'c str,
     /// When it is made, in UTC, in the years 0 to 9999.
     pub stamp: CivilDateTime,
-    /// How long each event lasts, in seconds, where that is told.
+    /// How long each event lasts, in seconds, if that is said.
     pub lasts: Option<u64>,
     /// How many starts the plan has.
     pub starts: usize,
 }
 
-/// The file of a calendar: its first events, at most `MOST_EVENTS`. Where the plan has more starts than these, its description says how many.
+/// The file of a calendar: its first events, at most `MOST_EVENTS`. If the plan has more starts, the description says how many.
 ///
-/// Each line ends with a carriage return and a line feed, and is folded. No text of a job ends its property. The only error is want of memory.
+/// Each line ends with a carriage return and a line feed, and is folded. No text of a job can end its property early. The only error is
+/// lack of memory.
 pub fn calendar_text(
     alloc: Global,
     calendar: Calendar<'_>,
@@ -47,7 +48,7 @@ pub fn calendar_text(
     Ok(text)
 }
 
-// Puts the file of a calendar behind a text.
+// Appends the file of a calendar to a text.
 #[tactic(auto, unfolding(crate::specs::Calendars::calendar_text))]
 fn push_calendar(
     alloc: Global,
@@ -62,7 +63,7 @@ fn push_calendar(
     push_property(alloc, text, "END", "VCALENDAR")
 }
 
-// Puts some events behind a text.
+// Appends some events to a text.
 #[tactic(auto, using(crate::proofs::Events::events_step), unfolding(crate::specs::Calendars::events_text))]
 fn push_events(
     alloc: Global,
@@ -131,7 +132,7 @@ fn left_out_text(alloc: Global, calendar: Calendar<'_>) -> Result<String, AllocE
     Ok(text)
 }
 
-// What is said where a calendar of so many starts has not all.
+// What is said if a calendar doesn't have all of so many starts.
 fn push_cut(text: &mut String, count: usize) -> Result<(), AllocError>
     ensures { OnOk result (string_bytes text.new ≡ string_bytes text.old ++ cut_text count) }
 {
@@ -141,7 +142,7 @@ fn push_cut(text: &mut String, count: usize) -> Result<(), AllocError>
     write!(text, " These are the first 2000 of {count} starts.")
 }
 
-// Puts a property of type TEXT behind a text.
+// Appends a property of type TEXT to a text.
 #[tactic(auto, unfolding(crate::specs::Calendars::text_line))]
 fn push_text(alloc: Global, out: &mut String, name: &str, text: &str) -> Result<(), AllocError>
     ensures { OnOk result (string_bytes out.new ≡ string_bytes out.old ++ text_line name.now text.now) }
@@ -150,7 +151,7 @@ fn push_text(alloc: Global, out: &mut String, name: &str, text: &str) -> Result<
     push_property(alloc, out, name, value.as_str())
 }
 
-// Puts a property with a value that stands as it is behind a text.
+// Appends a property, with its value as it is, to a text.
 #[tactic(auto, unfolding(crate::specs::Calendars::property_line))]
 fn push_property(alloc: Global, out: &mut String, name: &str, value: &str) -> Result<(), AllocError>
     ensures { OnOk result (string_bytes out.new ≡ string_bytes out.old ++ property_line name.now value.now) }

@@ -20,7 +20,8 @@ pub struct ClockTime {
 }
 
 impl ClockTime {
-    /// What the clock of a table shows at a second: of one that the table hasn't, outside the UTC years -9999 to 9999, the begin of 1970.
+    /// What the clock of a table shows at a second. For one that the table doesn't have, outside the UTC years -9999 to 9999, it is the
+    /// beginning of 1970.
     pub fn at(table: &ClockTable, second: i64) -> ClockTime
         ensures { IsClockAt (table_zone table.now) second result }
     {
@@ -70,7 +71,7 @@ impl fmt::Display for ClockTime {
     }
 }
 
-/// The front of a weekday's name: `Mon`.
+/// The abbreviation of a weekday's name: `Mon`.
 pub fn weekday_text(weekday: Weekday) -> &'static str
     ensures { result.now ≡ weekday_text (weekday_index weekday) }
 {

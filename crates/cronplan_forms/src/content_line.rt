@@ -8,10 +8,10 @@ use std::alloc::AllocError;
 /// The most bytes of a line of the file, without its carriage return and line feed.
 const MOST_BYTES: usize = 75;
 
-/// Puts a content line behind a text, with its carriage return and line feed, folded as RFC 5545 has it in section 3.1.
+/// Appends a content line to a text, with its carriage return and line feed, folded by RFC 5545, section 3.1.
 ///
-/// No line of the file has more than 75 bytes, and a fold never stands within a character. Without its folds it is the line. The only error is
-/// want of memory; what then stands behind the text is not said.
+/// No line of the file has more than 75 bytes, and a fold is never within a character. Without its folds it is the given line. The only
+/// error is lack of memory; the text's end is then unspecified.
 #[tactic(auto, using(crate::proofs::FoldedLines::short, crate::proofs::FoldedLines::whole))]
 pub fn push_content_line(text: &mut String, line: &str) -> Result<(), AllocError>
     ensures value { OnOk result (string_bytes text.new ≡ string_bytes text.old ++ content_line line.now) }
@@ -25,7 +25,7 @@ pub fn push_content_line(text: &mut String, line: &str) -> Result<(), AllocError
     text.push_str("\r\n")
 }
 
-// Puts a character behind so many bytes of its line, or in the next one where it finds no room. How many bytes its line has with it.
+// Appends a character after so many bytes of its line, or in the next line if it doesn't fit. Returns how many bytes its line then has.
 fn push_placed(text: &mut String, used: usize, c: char) -> Result<usize, AllocError>
     requires { used ≤ 75 }
     ensures value { OnOk result (string_bytes text.new ≡ string_bytes text.old ++ placed used c) }

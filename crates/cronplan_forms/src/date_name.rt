@@ -1,32 +1,31 @@
-//! Dates as they are called.
+//! The names of dates.
 ghost use Rattle.std.specs.Prelude.{◌≡◌};
 ghost use Rattle.croner_base.specs.Calendar.{weekday_of_day};
 ghost use Rattle.croner_base.specs.Civil.{weekday_index};
-ghost use Rattle.cronplan_forms.specs.DateNames.{IsDateName, month_text, second_of_date};
+ghost use Rattle.cronplan_forms.specs.DateNames.{IsDateName, date_of_wall, month_text, second_of_date};
 
 use crate::clock::weekday_text;
+use croner_base::limits::SECONDS_PER_DAY;
 use croner_base::time::{CivilDateTime, Weekday};
 use std::fmt;
 
-const SECONDS_PER_DAY: i64 = 86_400;
-
 const DAYS_PER_WEEK: i128 = 7;
 
-/// The weekday of 1970-01-01, as days behind a Sunday.
+/// The weekday of 1970-01-01, as days after a Sunday.
 const THURSDAY: i128 = 4;
 
-/// A date, and what it is called: `Sun 28 Mar`, ten columns wide.
+/// A date with its name: `Sun 28 Mar`, ten columns wide.
 #[derive(Debug, Clone, Copy)]
 pub struct DateName {
     /// The date, counted from 1970-01-01.
     pub date: i64,
     pub weekday: Weekday,
-    /// Its begin. `None` where no year of 32 bits has it.
+    /// Its beginning. `None` where its year doesn't fit 32 bits.
     pub civil: Option<CivilDateTime>,
 }
 
 impl DateName {
-    /// What a date is called that is counted from 1970-01-01.
+    /// The name of a date, which is counted from 1970-01-01.
     pub fn of(date: i64) -> DateName
         ensures { IsDateName date result }
     {
@@ -38,11 +37,18 @@ impl DateName {
     }
 }
 
-// The wall second with which a date begins: of one too far off the first or the last of 64 bits.
+// The wall second at which a date begins; for one too far off, the first or the last of 64 bits.
 fn second_of_date(date: i64) -> i64
     ensures { result ≡ second_of_date date }
 {
-    date.saturating_mul(SECONDS_PER_DAY)
+    date.saturating_mul(i64::from(SECONDS_PER_DAY))
+}
+
+/// The date of a wall second, counted from 1970-01-01.
+pub(crate) fn date_of_wall(wall: i64) -> i64
+    ensures { result ≡ date_of_wall wall }
+{
+    wall.div_euclid(i64::from(SECONDS_PER_DAY))
 }
 
 #[tactic(auto, using(crate::proofs::DateSteps::weekday_is))]
@@ -71,7 +77,7 @@ impl fmt::Display for DateName {
     }
 }
 
-/// The front of a month's name, of 1 to 12: `Mar`.
+/// The abbreviation of a month's name, by its number from 1 to 12: `Mar`.
 pub(crate) fn month_text(month: u32) -> &'static str
     ensures { result.now ≡ month_text month }
 {

@@ -1,11 +1,11 @@
-//! The characters of a text as they stand in a calendar or a page.
+//! The characters of a text as they are written in a calendar or a page.
 ghost use Rattle.std.specs.Prelude.{◌≡◌, ◌++◌, option_map, OnOk, IfOk, IsTrue, string_bytes};
 ghost use Rattle.std.specs.List.{list_all};
 ghost use Rattle.cronplan_forms.specs.Escapes.{text_escape, html_escape, escape_of, backslash, is_control, number_text, plain_text, escaped_character, escaped, ends_nothing};
 
 use std::alloc::{AllocError, Global};
 
-/// Where a text stands.
+/// Where a text is written.
 #[derive(Debug, Clone, Copy, PartialEq, Eq)]
 pub enum Form {
     /// In a value of type TEXT of a calendar (RFC 5545, section 3.3.11).
@@ -14,10 +14,10 @@ pub enum Form {
     Html,
 }
 
-/// A text as it stands in a form.
+/// A text as it is written in a form.
 ///
-/// No character of it ends a property of a calendar, nor an element or an attribute of a page: each that would stands by its escape. Other
-/// control signs of ASCII stand by their numbers, as `\u{1b}`. The only error is want of memory.
+/// No character of it ends a property of a calendar, or an element or attribute of a page: one that would is escaped. Other ASCII control
+/// characters are written by number, as `\u{1b}`. The only error is lack of memory.
 pub fn escaped(alloc: Global, text: &str, form: Form) -> Result<String, AllocError>
     ensures value { IfOk result (λ t. string_bytes t ≡ escaped form text.now) }
     ensures closed { IfOk result (λ t. IsTrue (list_all (ends_nothing form) (string_bytes t))) }
@@ -27,9 +27,9 @@ pub fn escaped(alloc: Global, text: &str, form: Form) -> Result<String, AllocErr
     Ok(escaped)
 }
 
-/// Puts a text behind another, as it stands in a form.
+/// Appends a text to another, as it is written in a form.
 ///
-/// The only error is want of memory; what then stands behind the other text is not said.
+/// The only error is lack of memory; the end of the other text is then unspecified.
 #[tactic(auto, using(crate::proofs::EscapedTexts::all_closed))]
 pub fn push_escaped(out: &mut String, text: &str, form: Form) -> Result<(), AllocError>
     ensures value { OnOk result (string_bytes out.new ≡ string_bytes out.old ++ escaped form text.now) }
@@ -50,7 +50,7 @@ fn push_character(out: &mut String, c: char, form: Form) -> Result<(), AllocErro
     }
 }
 
-// Puts a character behind a text that no escape is for.
+// Appends a character that has no escape to a text.
 fn push_plain(out: &mut String, c: char, form: Form) -> Result<(), AllocError>
     ensures { OnOk result (string_bytes out.new ≡ string_bytes out.old ++ plain_text form c) }
 {
@@ -77,14 +77,14 @@ fn backslash(form: Form) -> &'static str
     }
 }
 
-// A control sign of ASCII.
+// Whether a character is an ASCII control character.
 fn is_control(c: char) -> bool
     ensures { result ≡ is_control c }
 {
     c < ' ' || c == '\x7f'
 }
 
-// What stands for a character that doesn't stand for itself.
+// The escape of a character that isn't written as it is.
 fn escape_of(c: char, form: Form) -> Option<&'static str>
     ensures { option_map (λ escape. escape.now) result ≡ escape_of form c }
 {

@@ -1,6 +1,6 @@
 //! The jobs of a plan.
 
-/// What the forms show of a job. Its texts are shown as they are, but for the escapes of the form.
+/// What the forms show of a job. Its texts are shown as they are, except for the escapes of the form.
 #[derive(Clone, Copy)]
 pub struct Job<'j> {
     pub title: &'j str,
@@ -13,6 +13,6 @@ pub struct Job<'j> {
     /// Its times as the crontab has them.
     pub times: &'j str,
     pub command: &'j [u8],
-    /// Which of the jobs of this user with these times and this command it is, from 0.
+    /// How many jobs with the same user, times and command come before it.
     pub equal: u32,
 }

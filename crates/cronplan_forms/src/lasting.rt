@@ -4,7 +4,7 @@ use jiff_fmt::friendly::SpanPrinter;
 use std::fmt;
 use std::time::Duration;
 
-/// So many seconds, as `9h 30m`.
+/// A number of seconds, as `9h 30m`.
 #[derive(Debug, Clone, Copy)]
 pub struct Lasting {
     pub seconds: u64,

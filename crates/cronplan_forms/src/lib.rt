@@ -1,8 +1,9 @@
-//! The forms of a plan of jobs, each a function of values: nothing here reads a clock or a file.
+//! The forms in which a plan of jobs is shown. Each is a function of values: nothing here reads a clock or a file.
 #![tactic(auto)]
 
 mod ahead;
 mod answers;
+mod apart;
 mod calendar;
 mod clock;
 mod content_line;
@@ -26,6 +27,6 @@ pub use date_name::DateName;
 pub use escapes::{Form, escaped, push_escaped};
 pub use job::Job;
 pub use lasting::Lasting;
-pub use month::{Daily, Month, MonthDay, month_text};
+pub use month::{Daily, Month, MonthDay, Titled, months_text};
 pub use view::View;
 pub use week::{Signs, WeekDay, week_text};

@@ -1,20 +1,35 @@
-//! The days of a month as a grid of text, 78 columns wide: a row a week, from Monday on.
+//! The days of months as grids of text, 78 columns wide: a row a week, from Monday on.
 ghost use Rattle.std.specs.Prelude.{◌≡◌, ◌++◌, ◌+◌, ◌-◌, ◌<◌, ◌^◌, ◌∷◌, [], length, take, IfOk, OnOk, string_bytes, slice_get};
 ghost use Rattle.std.specs.List.{flat_map};
 ghost use Rattle.std.specs.Str.{chars};
 ghost use Rattle.croner_base.specs.Excerpt.{is_control, ends_a_line};
-ghost use Rattle.cronplan_forms.specs.Months.{character_text, cut_text, fill, date_cell, title_cell, title_cell_of, left_cell, day_cell, places_before, cell_of, has_line_of, place_cell, has_line, barred_cell, cells_text, is_used, line_text, lines_text, rule_text, week_text, week_count, weeks_text, weekdays_text, head_text, daily_line, daily_lines, headed_lines, daily_text, month_text};
+ghost use Rattle.cronplan_forms.specs.Months.{character_text, cut_text, fill, date_cell, title_cell, title_cell_of, left_cell, date_cell_of, day_cell, marked_cell, marked_date, places_before, cell_of, has_line_of, place_cell, has_line, barred_cell, cells_text, is_used, line_text, lines_text, rule_text, week_text, week_count, weeks_text, weekdays_text, head_text, daily_line, daily_lines, headed_lines, daily_text, month_text};
 
+mod number;
+mod of_plan;
+mod titles;
+
+pub use of_plan::months_text;
 use std::alloc::{AllocError, Global};
+
+/// A title on a date.
+#[derive(Debug, Clone, Copy)]
+pub struct Titled<'m> {
+    /// The date, counted from 1970-01-01.
+    pub date: i64,
+    pub title: &'m str,
+}
 
 /// A day of a month.
 #[derive(Clone, Copy)]
 pub struct MonthDay<'m> {
     /// The titles of what starts on it, but for what starts on every day. The first three are shown, and how many are left.
-    pub titles: &'m [&'m str],
+    pub titles: &'m [Titled<'m>],
+    /// Whether it is one of the plan. Another has a mark behind its number.
+    pub is_in_plan: bool,
 }
 
-/// What starts on every day of a month.
+/// What starts on every day.
 #[derive(Clone, Copy)]
 pub struct Daily<'m> {
     pub title: &'m str,
@@ -25,13 +40,12 @@ pub struct Daily<'m> {
 /// What a grid shows.
 #[derive(Clone, Copy)]
 pub struct Month<'m> {
-    /// The month and its year, as `March 2027`. It is written as it is.
+    /// The month and its year, as `March 2027`. It is written unchanged.
     pub name: &'m str,
-    /// The weekday of its first day, from 0 for Monday to 6 for Sunday; of another number what is left when it is divided by 7.
+    /// The weekday of its first day, from 0 for Monday to 6 for Sunday; another number is taken modulo 7.
     pub first_weekday: usize,
     /// Its days, from the first on.
     pub days: &'m [MonthDay<'m>],
-    pub daily: &'m [Daily<'m>],
 }
 
 /// The days of a week.
@@ -55,11 +69,11 @@ const DAILY_TITLE: usize = 24;
 const DAILY_WORDS: usize = 50;
 
 /// The grid: the month's name, the names of the weekdays, and for each week its dates, and below each date the titles of what starts on it. A line
-/// on which no day of the week has something is left out. Below the grid stands what starts on every day, each once, with its times.
+/// on which no day of the week has something is left out.
 ///
 /// A text that is too long is cut between two characters, and a `~` stands in place of the last that has room; a character counts as a column. One that
 /// a terminal acts on, or that ends a line, is a `?`. The only error is want of memory.
-pub fn month_text(alloc: Global, month: Month<'_>) -> Result<String, AllocError>
+pub(crate) fn month_text(alloc: Global, month: Month<'_>) -> Result<String, AllocError>
     ensures { IfOk result (λ t. string_bytes t ≡ month_text month.entry) }
 {
     let mut text = String::new(alloc);
@@ -67,14 +81,13 @@ pub fn month_text(alloc: Global, month: Month<'_>) -> Result<String, AllocError>
     Ok(text)
 }
 
-// Puts a grid behind a text.
+// Appends a grid to a text.
 #[tactic(auto, unfolding(crate::specs::Months::month_text))]
 fn push_month(text: &mut String, month: Month<'_>) -> Result<(), AllocError>
     ensures { OnOk result (string_bytes text.new ≡ string_bytes text.old ++ month_text month.entry) }
 {
     push_head(text, month)?;
-    push_weeks(text, month)?;
-    push_daily(text, month.daily)
+    push_weeks(text, month)
 }
 
 #[tactic(auto, unfolding(crate::specs::Months::head_text))]
@@ -106,7 +119,7 @@ fn push_weekdays(text: &mut String) -> Result<(), AllocError>
     )
 }
 
-// Puts the weeks of a month behind a text.
+// Appends the weeks of a month to a text.
 #[tactic(auto, unfolding(crate::specs::Months::weeks_text))]
 fn push_weeks(text: &mut String, month: Month<'_>) -> Result<(), AllocError>
     ensures { OnOk result (string_bytes text.new ≡ string_bytes text.old ++ weeks_text month.entry) }
@@ -124,14 +137,14 @@ fn week_count(month: Month<'_>) -> usize
     (places_before(month) + month.days.len() + WEEK - 1) / WEEK
 }
 
-// How many places of the first week stand before the first day.
+// How many places of the first week come before the first day.
 fn places_before(month: Month<'_>) -> usize
     ensures { result ≡ places_before month.entry }
 {
     month.first_weekday % WEEK
 }
 
-// Puts the week that begins at a place behind a text.
+// Appends the week that begins at a place to a text.
 #[tactic(auto, unfolding(crate::specs::Months::week_text))]
 fn push_week(text: &mut String, month: Month<'_>, monday: usize) -> Result<(), AllocError>
     requires { monday < 2 ^ 63 }
@@ -152,7 +165,7 @@ fn push_lines(text: &mut String, month: Month<'_>, monday: usize) -> Result<(), 
     Ok(())
 }
 
-// Puts a line of a week behind a text, if a day has something on it.
+// Appends a line of a week to a text, if a day has anything on it.
 #[tactic(auto, unfolding(crate::specs::Months::line_text))]
 fn push_line(
     text: &mut String,
@@ -205,7 +218,7 @@ fn day_has_line(days: &[MonthDay<'_>], day: usize, line: usize) -> bool
     false
 }
 
-// Puts the cells of a line of a week behind a text.
+// Appends the cells of a line of a week to a text.
 #[tactic(auto, unfolding(crate::specs::Months::cells_text))]
 fn push_cells(
     text: &mut String,
@@ -234,7 +247,7 @@ fn push_barred(
     push_place(text, month, place, line)
 }
 
-// Puts what the day at a place has on a line behind a text.
+// Appends to a text what the day at a place has on a line.
 #[tactic(auto, unfolding(crate::specs::Months::place_cell))]
 fn push_place(
     text: &mut String,
@@ -251,7 +264,7 @@ fn push_place(
     push_day(text, month.days, place - before, line)
 }
 
-// Puts what the day with a number, from 0, has on a line behind a text.
+// Appends to a text what the day with a number, from 0, has on a line.
 fn push_day(
     text: &mut String,
     days: &[MonthDay<'_>],
@@ -261,28 +274,57 @@ fn push_day(
     ensures { OnOk result (string_bytes text.new ≡ string_bytes text.old ++ cell_of (slice_get days.now day) (day + 1) line) }
 {
     if day < days.len() {
-        return push_day_line(text, days[day].titles, day + 1, line);
+        return push_day_line(text, days[day], day + 1, line);
     }
     push_fill(text, 0)
 }
 
-// Puts what a day with these titles has on a line behind a text.
+// Puts what a day has on a line behind a text.
 #[tactic(auto, unfolding(crate::specs::Months::day_cell))]
 fn push_day_line(
     text: &mut String,
-    titles: &[&str],
+    day: MonthDay<'_>,
     date: usize,
     line: usize,
 ) -> Result<(), AllocError>
-    ensures { OnOk result (string_bytes text.new ≡ string_bytes text.old ++ day_cell titles.now date line) }
+    ensures { OnOk result (string_bytes text.new ≡ string_bytes text.old ++ day_cell day.entry date line) }
 {
     if line == 0 {
-        return push_date(text, date);
+        return push_date_of(text, date, day.is_in_plan);
     }
     if line == LEFT_LINE {
-        return push_left(text, titles.len());
+        return push_left(text, day.titles.len());
     }
-    push_title_at(text, titles, line - 1)
+    push_title_at(text, day.titles, line - 1)
+}
+
+// Puts a date behind a text, with a mark where it isn't one of the plan.
+fn push_date_of(text: &mut String, date: usize, is_in_plan: bool) -> Result<(), AllocError>
+    ensures { OnOk result (string_bytes text.new ≡ string_bytes text.old ++ date_cell_of is_in_plan date) }
+{
+    if is_in_plan {
+        return push_date(text, date);
+    }
+    push_marked(text, date)
+}
+
+#[tactic(auto, unfolding(crate::specs::Months::marked_cell))]
+fn push_marked(text: &mut String, date: usize) -> Result<(), AllocError>
+    ensures { OnOk result (string_bytes text.new ≡ string_bytes text.old ++ marked_cell date) }
+{
+    let used = push_mark(text, date)?;
+    push_fill(text, used)
+}
+
+// Puts a date and its mark behind a text, and answers how many characters these are.
+#[tactic(auto, unfolding(crate::specs::Months::marked_date))]
+fn push_mark(text: &mut String, date: usize) -> Result<usize, AllocError>
+    ensures value { OnOk result (string_bytes text.new ≡ string_bytes text.old ++ marked_date date) }
+    ensures count { IfOk result (λ n. n ≡ length (marked_date date)) }
+{
+    let before = text.len();
+    write!(text, "{date} -")?;
+    Ok(text.len() - before)
 }
 
 fn push_date(text: &mut String, date: usize) -> Result<(), AllocError>
@@ -291,7 +333,7 @@ fn push_date(text: &mut String, date: usize) -> Result<(), AllocError>
     write!(text, "{date:<10}")
 }
 
-// Puts how many of so many titles are left behind a text, where there are more than are shown.
+// Appends to a text how many of so many titles are left, if there are more than are shown.
 fn push_left(text: &mut String, count: usize) -> Result<(), AllocError>
     ensures { OnOk result (string_bytes text.new ≡ string_bytes text.old ++ left_cell count) }
 {
@@ -302,11 +344,11 @@ fn push_left(text: &mut String, count: usize) -> Result<(), AllocError>
     write!(text, "+{left:<9}")
 }
 
-fn push_title_at(text: &mut String, titles: &[&str], place: usize) -> Result<(), AllocError>
+fn push_title_at(text: &mut String, titles: &[Titled<'_>], place: usize) -> Result<(), AllocError>
     ensures { OnOk result (string_bytes text.new ≡ string_bytes text.old ++ title_cell_of (slice_get titles.now place)) }
 {
     if place < titles.len() {
-        return push_title(text, titles[place]);
+        return push_title(text, titles[place].title);
     }
     push_fill(text, 0)
 }
@@ -319,7 +361,7 @@ fn push_title(text: &mut String, title: &str) -> Result<(), AllocError>
     push_fill(text, character_count(title))
 }
 
-// Puts spaces behind so many characters of a cell, as far as it has room.
+// Fills a cell that has so many characters with spaces.
 #[tactic(auto, unfolding(crate::specs::Months::fill))]
 fn push_fill(text: &mut String, used: usize) -> Result<(), AllocError>
     ensures { OnOk result (string_bytes text.new ≡ string_bytes text.old ++ fill used) }
@@ -330,7 +372,7 @@ fn push_fill(text: &mut String, used: usize) -> Result<(), AllocError>
     Ok(())
 }
 
-// Puts a text behind another, cut where it has more than so many characters.
+// Appends a text to another, cut where it has more than so many characters.
 #[tactic(auto, using(crate::proofs::MonthParts::cut_whole, crate::proofs::MonthParts::cut_short))]
 fn push_cut(text: &mut String, title: &str, most: usize) -> Result<(), AllocError>
     requires { 0 < most }
@@ -350,7 +392,7 @@ fn character_count(text: &str) -> usize
     text.chars().count()
 }
 
-// Puts the first characters of a text behind another, so many at most.
+// Appends the first characters of a text, at most `most`, to another.
 fn push_first(text: &mut String, title: &str, most: usize) -> Result<(), AllocError>
     ensures { OnOk result (string_bytes text.new ≡ string_bytes text.old ++ flat_map character_text (take most (chars title.now))) }
 {
@@ -361,7 +403,7 @@ fn push_first(text: &mut String, title: &str, most: usize) -> Result<(), AllocEr
     Ok(())
 }
 
-// Puts a character behind a text, if so many are left and not 0. How many are left then.
+// Appends a character to a text, unless `left` is 0. Returns how many are left then.
 fn push_if_left(text: &mut String, c: char, left: usize) -> Result<usize, AllocError>
     ensures value { OnOk result (string_bytes text.new ≡ string_bytes text.old ++ flat_map character_text (take left (c ∷ []))) }
     ensures left { IfOk result (λ n. n ≡ left - 1) }
@@ -395,7 +437,7 @@ fn ends_a_line(c: char) -> bool
     '\u{2028}' <= c && c <= '\u{2029}'
 }
 
-// Puts what starts on every day behind a text, if something does.
+/// Puts what starts on every day behind a text, if something does.
 #[tactic(auto, unfolding(crate::specs::Months::daily_text))]
 fn push_daily(text: &mut String, daily: &[Daily<'_>]) -> Result<(), AllocError>
     ensures { OnOk result (string_bytes text.new ≡ string_bytes text.old ++ daily_text daily.now) }

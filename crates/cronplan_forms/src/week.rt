@@ -9,10 +9,11 @@ use crate::clock::TimeOfDay;
 use crate::date_name::DateName;
 use crate::view::View;
 use changes::{push_changes, shown_changes};
+use croner_base::limits::SECONDS_PER_DAY;
 use cronplan::{Day, HourCell, Moment};
 use std::alloc::{AllocError, Global};
 
-/// What a terminal shows.
+/// The signs that a terminal can show.
 #[derive(Debug, Clone, Copy, PartialEq, Eq)]
 pub enum Signs {
     /// A dot, and blocks of eight heights.
@@ -31,11 +32,10 @@ pub struct WeekDay<'w> {
 /// The least starts in an hour of each of the steps.
 const STEPS: [u64; 9] = [0, 1, 2, 4, 8, 16, 32, 64, 128];
 
-const SECONDS_PER_DAY: i64 = 86_400;
-
 /// The picture of a plan: a row a date, and what the signs mean; and below a line for each change of the clock.
 ///
-/// A sign stands for the starts in an hour, in steps that double; an hour that the clock skips is an `x`. The only error is want of memory.
+/// A sign stands for the number of starts in an hour, in doubling steps; an hour that the clock skips is an `x`. The only error is lack of
+/// memory.
 pub fn week_text(alloc: Global, view: View<'_>, signs: Signs) -> Result<String, AllocError>
     ensures { IfOk result (λ t. (week : PlanWeek) × IsPlanWeek view.entry.table.now view.entry.plan.now week × (string_bytes t ≡ week_text signs week)) }
 {
@@ -70,7 +70,7 @@ fn row_of(day: &Day) -> WeekDay<'_>
     }
 }
 
-// Puts the rows of a picture behind a text, and what the signs mean.
+// Appends the rows of a picture to a text, and what the signs mean.
 #[tactic(auto, unfolding(crate::specs::Weeks::picture_text))]
 fn push_picture(text: &mut String, days: &[WeekDay<'_>], signs: Signs) -> Result<(), AllocError>
     ensures { OnOk result (string_bytes text.new ≡ string_bytes text.old ++ picture_text signs days.now) }
@@ -97,7 +97,7 @@ fn push_rows(text: &mut String, days: &[WeekDay<'_>], signs: Signs) -> Result<()
     Ok(())
 }
 
-// Puts a date behind a text: its name, its hours, how many starts it has, and its fullest moment.
+// Appends a date to a text: its name, its hours, how many starts it has, and its fullest moment.
 #[tactic(auto, unfolding(crate::specs::Weeks::row_text))]
 fn push_row(text: &mut String, day: WeekDay<'_>, signs: Signs) -> Result<(), AllocError>
     ensures { OnOk result (string_bytes text.new ≡ string_bytes text.old ++ row_text signs day.entry) }
@@ -108,7 +108,7 @@ fn push_row(text: &mut String, day: WeekDay<'_>, signs: Signs) -> Result<(), All
     push_total(text, day.day.starts, day.day.fullest)
 }
 
-// Puts behind a text how many starts a date has, and its fullest moment, and ends the line.
+// Appends to a text how many starts a date has, and its fullest moment, and ends the line.
 #[tactic(auto, unfolding(crate::specs::Weeks::total_text))]
 fn push_total(text: &mut String, starts: u64, fullest: Option<Moment>) -> Result<(), AllocError>
     ensures { OnOk result (string_bytes text.new ≡ string_bytes text.old ++ total_text starts fullest) }
@@ -197,7 +197,7 @@ fn digit_of(starts: u64) -> &'static str
     }
 }
 
-// Puts the fullest moment of a date behind a text, if it has one.
+// Appends the fullest moment of a date to a text, if it has one.
 fn push_fullest(text: &mut String, fullest: Option<Moment>) -> Result<(), AllocError>
     ensures { OnOk result (string_bytes text.new ≡ string_bytes text.old ++ fullest_text fullest) }
 {
@@ -225,14 +225,14 @@ fn time_of(moment: Moment) -> u64
     second_of_day(moment.wall)
 }
 
-/// The second of its day that a wall second is, from 0 to 86,399.
+/// The second of the day of a wall second, from 0 to 86,399.
 pub(crate) fn second_of_day(wall: i64) -> u64
     ensures { result ≡ second_of_day wall }
 {
-    wall.rem_euclid(SECONDS_PER_DAY) as u64
+    wall.rem_euclid(i64::from(SECONDS_PER_DAY)) as u64
 }
 
-// Puts behind a text what the signs mean.
+// Appends to a text what the signs mean.
 #[tactic(auto, unfolding(crate::specs::Weeks::legend_text))]
 fn push_legend(text: &mut String, signs: Signs) -> Result<(), AllocError>
     ensures { OnOk result (string_bytes text.new ≡ string_bytes text.old ++ legend_text signs) }

@@ -11,7 +11,7 @@ use Rattle.cronplan_page.specs.Markup.{list_of}
 use Rattle.cronplan_page.specs.Pieces.{piece_text}
 use Rattle.cronplan_page.specs.Words.{many_text, started_text, time_text}
 
--- a start at a second: its job behind a comma, and nothing where it is at another
+-- a start at a second: its job after a comma, and nothing where it is at another
 abbrev pub name_at : List Job → ℤ → JobStart → List ℕ
 name_at jobs second s = if int_eq s.second second then codes ", " ++ started_text jobs s.job s.count else []
 

@@ -9,7 +9,7 @@ use Rattle.cronplan_page.specs.declared.pieces.Piece.{Piece}
 use Rattle.cronplan_page.specs.declared.pieces.Piece.TheVariants as pieces
 use Rattle.cronplan_page.specs.Pieces.{piece_text}
 
--- a text as it stands in an element: no byte of it ends that
+-- a text as it is written in an element: no byte of it ends the element
 abbrev pub html : List ℕ → List ℕ
 html text = escaped forms.Html text
 

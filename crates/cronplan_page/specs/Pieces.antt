@@ -46,7 +46,7 @@ piece_text pieces.JobsHeading = codes "<h2>Jobs</h2>\n"
 piece_text pieces.NoWindow = codes "<p>There is none.</p>\n"
 piece_text pieces.NoStart = codes "<p>Nothing starts.</p>\n"
 piece_text pieces.NoChange = codes "<p>The clock goes on evenly in these days.</p>\n"
-piece_text pieces.NoWarning = codes "<p>Not told here.</p>\n"
+piece_text pieces.NoWarning = codes "<p>None.</p>\n"
 piece_text pieces.WeekTable = week_table_text
 piece_text pieces.WeekKey = codes "<p>Each hour has a number, how many starts it has. An x stands where the clock skips the hour, and a broken line around an hour that it shows twice.</p>\n"
 piece_text pieces.JobsTable = codes "<div class=\"wide\">\n<table>\n<tr><th scope=\"col\">Job</th><th scope=\"col\">When</th><th scope=\"col\">Line</th><th scope=\"col\">Starts</th><th scope=\"col\">Next</th><th scope=\"col\">Beware</th></tr>\n"

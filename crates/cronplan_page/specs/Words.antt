@@ -11,7 +11,7 @@ use Rattle.cronplan_forms.specs.Clocks.{weekday_text, clock_time_text, lasting_t
 use Rattle.cronplan_page.specs.declared.timed.NamedDay.{NamedDay}
 use Rattle.cronplan_page.specs.Markup.{html}
 
--- what stands behind the name of a thing of which there are so many
+-- what follows the name of a thing of which there are so many
 abbrev pub plural_of : ℕ → List ℕ
 plural_of n = if n == 1 then [] else codes "s"
 
@@ -44,7 +44,7 @@ title_text jobs place = title_or_none (slice_get jobs place)
 unfoldable pub started_text : List Job → ℕ → ℕ → List ℕ
 started_text jobs place count = title_text jobs place ++ times_text count
 
--- the weekday of a date that is counted from 1970-01-01, a Thursday, by how many days it comes behind Sunday
+-- the weekday of a date that is counted from 1970-01-01, a Thursday, by how many days it comes after Sunday
 abbrev pub weekday_on : ℤ → ℕ
 weekday_on date = (unsigned_abs (int_rem_euclid date (pos 7)) + 4) % 7
 

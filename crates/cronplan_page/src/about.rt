@@ -1,4 +1,4 @@
-//! What a page tells that no plan has.
+//! What a page says besides its plan.
 
 use crate::markup::Line;
 
@@ -8,12 +8,12 @@ pub struct Warnings<'p> {
     pub lines: &'p [Line<'p>],
 }
 
-/// What a page tells beside its plan. Texts are shown as they are, but for the escapes of a page.
+/// What a page says besides its plan. Texts are shown as they are, except for the escapes of a page.
 #[derive(Clone, Copy)]
 pub struct About<'p> {
     pub title: &'p str,
     /// What cron ignores or refuses.
     pub ignored: &'p [Line<'p>],
-    /// What to beware of, by the places of the jobs. Of a job whose place isn't there nothing is told.
+    /// What to beware of, by the places of the jobs. For a job whose place isn't listed nothing is said.
     pub warnings: &'p [Warnings<'p>],
 }

@@ -8,7 +8,7 @@ use crate::timed::TimedChange;
 use crate::words::{push_duration, push_time};
 use std::alloc::AllocError;
 
-/// Puts the list of some changes behind a text of a page. The only error is want of memory; what then stands behind the text is not said.
+/// Appends the list of some changes to the text of a page. The only error is lack of memory; the text's end is then unspecified.
 #[tactic(auto, unfolding(crate::specs::ClockChanges::changes_text, crate::specs::Markup::list_of))]
 pub(crate) fn push_changes(out: &mut String, changes: &[TimedChange]) -> Result<(), AllocError>
     ensures { OnOk result (string_bytes out.new ≡ string_bytes out.old ++ changes_text changes.now) }
@@ -39,7 +39,7 @@ fn push_change(out: &mut String, change: TimedChange) -> Result<(), AllocError>
     push_piece(out, Piece::ItemEnd)
 }
 
-/// Puts a change in words behind a text of a page. The only error is want of memory.
+/// Appends a change in words to the text of a page. The only error is lack of memory.
 #[tactic(auto, unfolding(crate::specs::ClockChanges::change_words))]
 pub(crate) fn push_change_words(out: &mut String, change: TimedChange) -> Result<(), AllocError>
     ensures { OnOk result (string_bytes out.new ≡ string_bytes out.old ++ change_words change) }
@@ -51,7 +51,7 @@ pub(crate) fn push_change_words(out: &mut String, change: TimedChange) -> Result
     out.push_str(fate_text(change))
 }
 
-// By how many seconds the clock is put forward or back.
+// How many seconds the clock is moved forward or back.
 fn moved(change: TimedChange) -> u64
     ensures { result ≡ moved change }
 {
@@ -62,7 +62,7 @@ fn moved(change: TimedChange) -> u64
         .abs_diff(change.shown.ahead.seconds)
 }
 
-// What becomes of so much of the clock.
+// What happens to the time that the clock is moved by.
 fn fate_text(change: TimedChange) -> &'static str
     ensures { result.now ≡ fate_text change }
 {

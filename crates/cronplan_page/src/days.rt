@@ -12,8 +12,7 @@ use std::alloc::AllocError;
 
 const SECONDS_PER_DAY: i64 = 86_400;
 
-/// Puts some days with their starts behind a text of a page. The only error is want of memory; what then stands behind the text is not
-/// said.
+/// Appends some days with their starts to the text of a page. The only error is lack of memory; the text's end is then unspecified.
 #[tactic(auto, unfolding(crate::specs::PlanDays::days_text))]
 pub(crate) fn push_days(
     out: &mut String,
@@ -59,7 +58,7 @@ fn push_day(
     push_piece(out, Piece::DayEnd)
 }
 
-// Puts the name of a day behind a text, and how many starts it has.
+// Appends the name of a day to a text, and how many starts it has.
 #[tactic(auto, unfolding(crate::specs::PlanDays::day_head))]
 fn push_day_head(out: &mut String, day: NamedDay<'_>) -> Result<(), AllocError>
     ensures { OnOk result (string_bytes out.new ≡ string_bytes out.old ++ day_head day.entry) }
@@ -86,7 +85,7 @@ fn push_starts_on(
     Ok(())
 }
 
-// Puts a start behind a text, if the clock shows a date then.
+// Appends a start to a text, if the clock shows a date then.
 fn push_start_on(
     out: &mut String,
     jobs: &[Job<'_>],

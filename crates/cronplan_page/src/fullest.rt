@@ -10,8 +10,8 @@ use cronplan::{JobStart, Moment};
 use cronplan_forms::Job;
 use std::alloc::AllocError;
 
-/// Puts the section of some moments of these starts behind a text of a page. The only error is want of memory; what then stands behind the
-/// text is not said.
+/// Appends the section of some moments of these starts to the text of a page. The only error is lack of memory; the text's end is then
+/// unspecified.
 #[tactic(auto, unfolding(crate::specs::Fullest::fullest_text, crate::specs::Markup::list_of))]
 pub(crate) fn push_fullest(
     out: &mut String,
@@ -58,7 +58,7 @@ fn push_moment(
     push_piece(out, Piece::ItemEnd)
 }
 
-// Puts behind a text how many starts there are at a moment, and of which jobs.
+// Appends to a text how many starts there are at a moment, and of which jobs.
 #[tactic(auto, unfolding(crate::specs::Fullest::moment_words))]
 fn push_words(
     out: &mut String,
@@ -87,7 +87,7 @@ fn push_names(
     Ok(())
 }
 
-// Puts the job of a start behind a text, if that is at a second.
+// Appends the job of a start to a text, if the start is at a second.
 fn push_name_at(
     out: &mut String,
     jobs: &[Job<'_>],

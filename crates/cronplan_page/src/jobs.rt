@@ -1,4 +1,4 @@
-//! The jobs of a plan: those that start too often to be shown, the lines of time of the others, and a table of what is told of them all.
+//! The jobs of a plan: those that start too often to be shown, the timelines of the others, and a table of all.
 ghost use Rattle.std.specs.Prelude.{◌≡◌, ◌==◌, ◌++◌, IfOk, OnOk, string_bytes, filter, take};
 ghost use Rattle.cronplan_page.specs.Markup.{number_text};
 ghost use Rattle.cronplan_page.specs.Pieces.{piece_text};
@@ -19,13 +19,13 @@ use cronplan::Frequent;
 use cronplan_forms::Job;
 use std::alloc::{AllocError, Global};
 
-/// So many of the starts of a job are told at most.
+/// The most starts of a job that the table lists.
 const MOST_NEXT: usize = 3;
 
 // ---- jobs that start too often to be shown
 
-/// Puts the section of these behind a text of a page, and nothing where there are none. The only error is want of memory; what then stands
-/// behind the text is not said.
+/// Appends the section of these jobs to the text of a page, and nothing if there are none. The only error is lack of memory; the
+/// text's end is then unspecified.
 #[tactic(auto, unfolding(crate::specs::PlanJobs::frequent_text))]
 pub(crate) fn push_frequent(
     out: &mut String,
@@ -85,8 +85,7 @@ fn frequent_count(frequent: &[Frequent], place: usize) -> Option<u64>
 
 // ---- lines of time
 
-/// Puts the lines of time of the jobs that are shown behind a text of a page. The only error is want of memory; what then stands behind the
-/// text is not said.
+/// Appends the timelines of the shown jobs to the text of a page. The only error is lack of memory; the text's end is then unspecified.
 #[tactic(auto, unfolding(crate::specs::PlanJobs::lines_section))]
 pub(crate) fn push_lines_section(out: &mut String, page: Page<'_>) -> Result<(), AllocError>
     ensures { OnOk result (string_bytes out.new ≡ string_bytes out.old ++ lines_section page.entry) }
@@ -105,7 +104,7 @@ fn push_time_lines(out: &mut String, page: Page<'_>, jobs: &[Job<'_>]) -> Result
     Ok(())
 }
 
-// Puts the line of time of the job at a place behind a text, if it is shown.
+// Appends the timeline of the job at a place to a text, if the job is shown.
 fn push_line_at(
     out: &mut String,
     page: Page<'_>,
@@ -122,7 +121,7 @@ fn push_line_at(
 
 // ---- the table
 
-/// Puts the table of the jobs behind a text of a page. The only error is want of memory; what then stands behind the text is not said.
+/// Appends the table of the jobs to the text of a page. The only error is lack of memory; the text's end is then unspecified.
 #[tactic(auto, unfolding(crate::specs::PlanJobs::table_text))]
 pub(crate) fn push_table(alloc: Global, out: &mut String, page: Page<'_>) -> Result<(), AllocError>
     ensures { OnOk result (string_bytes out.new ≡ string_bytes out.old ++ table_text page.entry) }
@@ -164,7 +163,7 @@ fn push_row(
     push_piece(out, Piece::RowEnd)
 }
 
-// Puts what is told of a job in words behind a text.
+// Appends to a text what is said of a job in words.
 #[tactic(auto, unfolding(crate::specs::PlanJobs::job_words))]
 fn push_words(out: &mut String, job: Job<'_>) -> Result<(), AllocError>
     ensures { OnOk result (string_bytes out.new ≡ string_bytes out.old ++ job_words job.entry) }
@@ -174,7 +173,7 @@ fn push_words(out: &mut String, job: Job<'_>) -> Result<(), AllocError>
     push_place(out, job)
 }
 
-// Puts where a job stands behind a text.
+// Appends the file and line of a job to a text.
 #[tactic(auto, unfolding(crate::specs::PlanJobs::place_cell))]
 fn push_place(out: &mut String, job: Job<'_>) -> Result<(), AllocError>
     ensures { OnOk result (string_bytes out.new ≡ string_bytes out.old ++ place_cell job.entry) }
@@ -186,7 +185,7 @@ fn push_place(out: &mut String, job: Job<'_>) -> Result<(), AllocError>
     push_piece(out, Piece::CellEnd)
 }
 
-// Puts what is told of the starts of the job at a place behind a text.
+// Appends the cells on the starts of the job at a place to a text.
 fn push_starts_cells(
     alloc: Global,
     out: &mut String,
@@ -221,7 +220,7 @@ fn push_shown_starts(
     push_next(alloc, out, page.starts, place)
 }
 
-// Puts a cell with the first of these starts that are of the job at a place behind a text.
+// Appends to a text a cell with the first of these starts that are of the job at a place.
 fn push_next(
     alloc: Global,
     out: &mut String,
@@ -234,7 +233,7 @@ fn push_next(
     push_next_cell(out, first_starts(own.as_slice()))
 }
 
-// Of these starts those of the job at a place.
+// Those of these starts that are of the job at a place.
 fn own_starts(
     alloc: Global,
     starts: &[TimedStart],
@@ -251,7 +250,7 @@ fn own_starts(
     Ok(own)
 }
 
-// The first of these starts, as many as are told.
+// The first of these starts, as many as the table lists.
 fn first_starts(starts: &[TimedStart]) -> &[TimedStart]
     ensures { result.now ≡ take most_next starts.now }
 {
@@ -292,7 +291,7 @@ fn push_next_line(out: &mut String, start: TimedStart) -> Result<(), AllocError>
     push_piece(out, Piece::ItemEnd)
 }
 
-// Puts a cell with what to beware of in the job at a place behind a text.
+// Appends to a text a cell with what to beware of in the job at a place.
 fn push_warnings(
     out: &mut String,
     warnings: &[Warnings<'_>],
@@ -306,7 +305,7 @@ fn push_warnings(
     }
 }
 
-// Puts a cell with a list behind a text.
+// Appends a cell with a list to a text.
 #[tactic(auto, unfolding(crate::specs::PlanJobs::list_cell))]
 fn push_cell(out: &mut String, lines: &[Line<'_>], none: Piece) -> Result<(), AllocError>
     ensures { OnOk result (string_bytes out.new ≡ string_bytes out.old ++ list_cell lines.now none) }

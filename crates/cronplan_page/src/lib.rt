@@ -1,5 +1,5 @@
-//! A plan of jobs as a page (HTML): one file without a script, which asks nothing of the network. It is a function of values: nothing here
-//! reads a clock or a file.
+//! A plan of jobs as a page (HTML): one file without a script, which loads nothing from the network. It is a function of values: nothing
+//! here reads a clock or a file.
 #![tactic(auto)]
 
 mod about;

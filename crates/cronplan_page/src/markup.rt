@@ -10,13 +10,12 @@ use std::alloc::AllocError;
 /// A line of a list.
 #[derive(Clone, Copy)]
 pub struct Line<'p> {
-    /// What matters of it, which stands in front, in bold letters.
+    /// Its beginning, in bold: what matters most.
     pub head: &'p str,
     pub rest: &'p str,
 }
 
-/// Puts a text behind a text of a page, by the escapes of HTML. The only error is want of memory; what then stands behind the text is not
-/// said.
+/// Appends a text to the text of a page, with the escapes of HTML. The only error is lack of memory; the text's end is then unspecified.
 pub(crate) fn push_html(out: &mut String, text: &str) -> Result<(), AllocError>
     ensures { OnOk result (string_bytes out.new ≡ string_bytes out.old ++ html text.now) }
 {
@@ -38,7 +37,7 @@ pub(crate) fn push_element(
     push_piece(out, back)
 }
 
-/// Puts a number in a cell of its own behind a text. The only error is want of memory.
+/// Appends a number in a cell of its own to a text. The only error is lack of memory.
 #[tactic(auto, unfolding(crate::specs::Markup::number_text))]
 pub(crate) fn push_number(out: &mut String, number: u64) -> Result<(), AllocError>
     ensures { OnOk result (string_bytes out.new ≡ string_bytes out.old ++ number_text number) }
@@ -54,7 +53,7 @@ fn push_decimal(out: &mut String, number: u64) -> Result<(), AllocError>
     write!(out, "{number}")
 }
 
-/// Puts a section behind a text of a page: its heading, and its lines, or what is said where it has none. The only error is want of
+/// Appends a section to the text of a page: its heading, and its lines, or what is said if it has none. The only error is lack of
 /// memory.
 #[tactic(auto, unfolding(crate::specs::Markup::section_text))]
 pub(crate) fn push_section(
@@ -69,7 +68,7 @@ pub(crate) fn push_section(
     push_list(out, lines, none)
 }
 
-/// Puts a list behind a text of a page, or what is said where it has no line. The only error is want of memory.
+/// Appends a list to the text of a page, or what is said if it has no line. The only error is lack of memory.
 #[tactic(auto, unfolding(crate::specs::Markup::list_text))]
 pub(crate) fn push_list(out: &mut String, lines: &[Line<'_>], none: Piece) -> Result<(), AllocError>
     ensures { OnOk result (string_bytes out.new ≡ string_bytes out.old ++ list_text lines.now none) }
@@ -82,7 +81,7 @@ pub(crate) fn push_list(out: &mut String, lines: &[Line<'_>], none: Piece) -> Re
     push_piece(out, Piece::ListEnd)
 }
 
-/// Puts the begin of a list behind a text of a page, or what is said where it is empty. The only error is want of memory.
+/// Appends the beginning of a list to the text of a page, or what is said if it is empty. The only error is lack of memory.
 pub(crate) fn push_list_begin(
     out: &mut String,
     is_empty: bool,
@@ -96,7 +95,7 @@ pub(crate) fn push_list_begin(
     push_piece(out, Piece::List)
 }
 
-/// Puts the end of a list behind a text of a page, if it isn't empty. The only error is want of memory.
+/// Appends the end of a list to the text of a page, if it isn't empty. The only error is lack of memory.
 pub(crate) fn push_list_end(out: &mut String, is_empty: bool) -> Result<(), AllocError>
     ensures { OnOk result (string_bytes out.new ≡ string_bytes out.old ++ list_end is_empty) }
 {

@@ -18,7 +18,7 @@ use cronplan::{JobStart, Plan};
 use cronplan_forms::{ClockTime, View};
 use std::alloc::{AllocError, Global};
 
-/// What a page tells of a plan, in the order of its questions. Texts are shown as they are, but for the escapes of a page.
+/// What a page shows of a plan, in the order of the page. Texts are shown as they are, except for the escapes of a page.
 #[derive(Clone, Copy)]
 pub struct Page<'p> {
     pub view: View<'p>,
@@ -39,7 +39,7 @@ pub struct Page<'p> {
 
 /// The text of a page: HTML in UTF-8, without a script, which loads nothing.
 ///
-/// No text of the plan ends the element that it stands in. The only error is want of memory.
+/// No text of the plan can end its element early. The only error is lack of memory.
 #[tactic(auto, unfolding(crate::specs::Pages::page_text))]
 pub fn page_text(alloc: Global, page: Page<'_>) -> Result<String, AllocError>
     ensures { IfOk result (λ t. string_bytes t ≡ page_text page.entry) }
@@ -63,7 +63,7 @@ fn push_head(out: &mut String, title: &str) -> Result<(), AllocError>
     push_piece(out, Piece::HeadEnd)
 }
 
-// Puts the first lines of a page behind its head: what it is of, what cron ignores, and what isn't shown.
+// Appends the first lines of a page after its head: what it is about, what cron ignores, and what isn't shown.
 #[tactic(auto, unfolding(crate::specs::Pages::top_text))]
 fn push_top(out: &mut String, page: Page<'_>) -> Result<(), AllocError>
     ensures { OnOk result (string_bytes out.new ≡ string_bytes out.old ++ top_text page.entry) }
@@ -74,7 +74,7 @@ fn push_top(out: &mut String, page: Page<'_>) -> Result<(), AllocError>
     push_frequent(out, page.view.jobs, page.view.frequent)
 }
 
-// Puts what a page is of behind its name.
+// Appends what a page is about after its name.
 #[tactic(auto, unfolding(crate::specs::Pages::about_text))]
 fn push_about(out: &mut String, page: Page<'_>) -> Result<(), AllocError>
     ensures { OnOk result (string_bytes out.new ≡ string_bytes out.old ++ about_text page.entry) }
@@ -86,7 +86,7 @@ fn push_about(out: &mut String, page: Page<'_>) -> Result<(), AllocError>
     push_cut(out, page.view.is_cut)
 }
 
-// Puts the span behind a text, and whose clock that is.
+// Appends the span to a text, and whose clock that is.
 #[tactic(auto, unfolding(crate::specs::Pages::span_text))]
 fn push_span(out: &mut String, page: Page<'_>) -> Result<(), AllocError>
     ensures { OnOk result (string_bytes out.new ≡ string_bytes out.old ++ span_text page.entry) }
@@ -96,7 +96,7 @@ fn push_span(out: &mut String, page: Page<'_>) -> Result<(), AllocError>
     push_html(out, page.view.zone)
 }
 
-// Puts behind a text how many jobs there are, and how many starts of them are shown.
+// Appends to a text how many jobs there are, and how many starts of them are shown.
 #[tactic(auto, unfolding(crate::specs::Pages::counts_text))]
 fn push_counts(out: &mut String, page: Page<'_>) -> Result<(), AllocError>
     ensures { OnOk result (string_bytes out.new ≡ string_bytes out.old ++ counts_text page.entry) }
@@ -126,7 +126,7 @@ fn count_in(starts: &[JobStart]) -> u64
     count
 }
 
-// Puts behind a text what is said where the plan ends before what was asked for.
+// Appends to a text what is said if the plan ends earlier than was asked for.
 fn push_cut(out: &mut String, is_cut: bool) -> Result<(), AllocError>
     ensures { OnOk result (string_bytes out.new ≡ string_bytes out.old ++ cut_text is_cut) }
 {
@@ -136,7 +136,7 @@ fn push_cut(out: &mut String, is_cut: bool) -> Result<(), AllocError>
     Ok(())
 }
 
-// Puts what cron ignores behind a text, and nothing where that is nothing.
+// Appends to a text what cron ignores, if there is anything.
 #[tactic(auto, unfolding(crate::specs::Pages::ignored_text))]
 fn push_ignored(out: &mut String, lines: &[Line<'_>]) -> Result<(), AllocError>
     ensures { OnOk result (string_bytes out.new ≡ string_bytes out.old ++ ignored_text lines.now) }
@@ -149,7 +149,7 @@ fn push_ignored(out: &mut String, lines: &[Line<'_>]) -> Result<(), AllocError>
     push_piece(out, Piece::SectionEnd)
 }
 
-// Puts what a plan answers behind the first lines of its page.
+// Appends what a plan answers after the first lines of its page.
 #[tactic(auto, unfolding(crate::specs::Pages::answers_text))]
 fn push_answers(out: &mut String, page: Page<'_>) -> Result<(), AllocError>
     ensures { OnOk result (string_bytes out.new ≡ string_bytes out.old ++ answers_text page.entry) }
@@ -161,7 +161,7 @@ fn push_answers(out: &mut String, page: Page<'_>) -> Result<(), AllocError>
     push_changes(out, page.changes)
 }
 
-// Puts the jobs and the days of a plan behind what it answers.
+// Appends the jobs and the days of a plan after what it answers.
 #[tactic(auto, unfolding(crate::specs::Pages::plan_text))]
 fn push_plan(alloc: Global, out: &mut String, page: Page<'_>) -> Result<(), AllocError>
     ensures { OnOk result (string_bytes out.new ≡ string_bytes out.old ++ plan_text page.entry) }

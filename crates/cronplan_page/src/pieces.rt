@@ -7,9 +7,9 @@ use std::alloc::AllocError;
 /// A piece of markup.
 #[derive(Clone, Copy)]
 pub(crate) enum Piece {
-    // The begin of a page: nothing is loaded, and no script runs.
+    // The beginning of a page: nothing is loaded, and no script runs.
     Head,
-    // How it looks: light or dark as its reader has it, from 400 pixels on, and on A4.
+    // Its style: light or dark by the reader's setting, for 400 pixels of width or more, and for A4.
     Style,
     HeadEnd,
     PageEnd,
@@ -23,7 +23,7 @@ pub(crate) enum Piece {
     ParagraphEnd,
     // Between a span and a zone.
     OnClock,
-    // What is said where a plan ends before what was asked for.
+    // What is said if a plan ends earlier than was asked for.
     Cut,
     // A section that is marked.
     Bad,
@@ -45,7 +45,7 @@ pub(crate) enum Piece {
     LinesHeading,
     DaysHeading,
     JobsHeading,
-    // What stands in place of an empty list.
+    // The text in place of an empty list.
     NoWindow,
     NoStart,
     NoChange,
@@ -77,13 +77,13 @@ pub(crate) enum Piece {
     Axis,
     MarkEnd,
     FigureEnd,
-    // A day, which opens where it is asked for.
+    // A day, which the reader can unfold.
     Day,
     DayName,
     DayEnd,
 }
 
-/// Puts a piece of markup behind a text of a page. The only error is want of memory; what then stands behind the text is not said.
+/// Appends a piece of markup to the text of a page. The only error is lack of memory; the text's end is then unspecified.
 pub(crate) fn push_piece(out: &mut String, piece: Piece) -> Result<(), AllocError>
     ensures { OnOk result (string_bytes out.new ≡ string_bytes out.old ++ piece_text piece) }
 {
@@ -131,7 +131,7 @@ fn text_of(piece: Piece) -> &'static str
         Piece::NoWindow => "<p>There is none.</p>\n",
         Piece::NoStart => "<p>Nothing starts.</p>\n",
         Piece::NoChange => "<p>The clock goes on evenly in these days.</p>\n",
-        Piece::NoWarning => "<p>Not told here.</p>\n",
+        Piece::NoWarning => "<p>None.</p>\n",
         Piece::WeekTable => week_table(),
         Piece::WeekKey =>
             "<p>Each hour has a number, how many starts it has. An x stands where the clock skips the hour, and a broken line around an hour that it shows twice.</p>\n",

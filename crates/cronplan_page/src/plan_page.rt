@@ -16,13 +16,13 @@ use cronplan::{Days, Plan, Window};
 use cronplan_forms::{ClockTime, View};
 use std::alloc::{AllocError, Global};
 
-/// So many windows are shown at most, the longest ones.
+/// The most windows that are shown: the longest ones.
 const MOST_QUIET: usize = 5;
 
-/// So many moments are shown at most, the fullest ones.
+/// The most moments that are shown: the fullest ones.
 const MOST_FULLEST: usize = 5;
 
-// What a page tells of a plan.
+// What a page shows of a plan.
 #[derive(Drop)]
 struct Told {
     quiet: Vec<TimedWindow>,
@@ -34,11 +34,11 @@ struct Told {
 
 /// The page of a plan: HTML in UTF-8, without a script, which loads nothing.
 ///
-/// It tells the longest windows in which nothing starts, the fullest moments, how many starts each hour of each date has, the changes of the
-/// clock, the starts of each job and of each date, and of each job what is told of it. No text of a job ends the element that it stands in.
-/// The only error is want of memory.
+/// It shows the longest windows in which nothing starts, the fullest moments, and how many starts each hour of each date has. It also
+/// shows the changes of the clock, the starts of each job and each date, and what `about` says of each job. No text of a job can end its
+/// element early. The only error is lack of memory.
 ///
-/// The time that it takes grows with the jobs and the dates times the starts.
+/// Its running time grows with the number of starts times the number of jobs and dates.
 pub fn page_of(alloc: Global, view: View<'_>, about: About<'_>) -> Result<String, AllocError>
     ensures { IfOk result (λ t. IsPageText view.entry about.entry (string_bytes t)) }
 {
@@ -59,7 +59,7 @@ pub fn page_of(alloc: Global, view: View<'_>, about: About<'_>) -> Result<String
     Ok(text)
 }
 
-// What a page tells of the plan of a view.
+// What a page shows of the plan of a view.
 fn told_of(alloc: Global, view: View<'_>) -> Result<Told, AllocError>
     ensures quiet { IfOk result (λ told. AreLongest (table_zone view.entry.table.now) view.entry.plan.now told.quiet.items) }
     ensures fullest { IfOk result (λ told. AreFullestOf (table_zone view.entry.table.now) view.entry.plan.now told.fullest.items) }

@@ -9,8 +9,7 @@ use crate::words::{push_between, push_duration};
 use cronplan::{Bound, Window};
 use std::alloc::AllocError;
 
-/// Puts the section of some windows behind a text of a page. The only error is want of memory; what then stands behind the text is not
-/// said.
+/// Appends the section of some windows to the text of a page. The only error is lack of memory; the text's end is then unspecified.
 #[tactic(auto, unfolding(crate::specs::Quiet::quiet_text, crate::specs::Markup::list_of))]
 pub(crate) fn push_quiet(out: &mut String, windows: &[TimedWindow]) -> Result<(), AllocError>
     ensures { OnOk result (string_bytes out.new ≡ string_bytes out.old ++ quiet_text windows.now) }
@@ -42,7 +41,7 @@ fn push_window(out: &mut String, window: TimedWindow) -> Result<(), AllocError>
     push_piece(out, Piece::ItemEnd)
 }
 
-// Puts behind a text how long a window is.
+// Appends to a text how long a window is.
 #[tactic(auto, unfolding(crate::specs::Quiet::length_text))]
 fn push_length(out: &mut String, window: Window) -> Result<(), AllocError>
     ensures { OnOk result (string_bytes out.new ≡ string_bytes out.old ++ length_text window) }

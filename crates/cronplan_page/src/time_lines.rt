@@ -1,4 +1,4 @@
-//! The starts of a job along a line of time, as a picture (SVG).
+//! The starts of a job along a timeline, as a picture (SVG).
 ghost use Rattle.std.specs.Prelude.{◌≡◌, ◌<◌, ◌≤◌, ◌^◌, ◌-ℤ◌, ◌++◌, OnOk, length, string_bytes, unsigned_abs};
 ghost use Rattle.cronplan_page.specs.TimeLines.{part_of, thousandths, counted_at, count_at, rect_text, mark_text, mark_of, marks_text, change_title, change_mark, change_marks, band_text, starts_text, picture_names, line_head, time_line};
 
@@ -12,14 +12,13 @@ use cronplan::{ClockChange, JobStart, Plan, Span};
 use cronplan_forms::Job;
 use std::alloc::AllocError;
 
-/// A job of more starts than these is shown as a band.
+/// A job with more starts than this is shown as a band.
 const MOST_MARKS: u64 = 200;
 
-/// The parts of a line of time.
+/// The parts into which a timeline is divided.
 const PARTS: u64 = 1_000;
 
-/// Puts the line of time of the job at a place behind a text of a page. The only error is want of memory; what then stands behind the text
-/// is not said.
+/// Appends the timeline of the job at a place to the text of a page. The only error is lack of memory; the text's end is then unspecified.
 #[tactic(auto, unfolding(crate::specs::TimeLines::time_line))]
 pub(crate) fn push_time_line(
     out: &mut String,
@@ -46,7 +45,7 @@ fn push_head(out: &mut String, job: Job<'_>) -> Result<(), AllocError>
     push_names(out, job)
 }
 
-// Puts the name and the description of a picture behind a text.
+// Appends the name and the description of a picture to a text.
 #[tactic(auto, unfolding(crate::specs::TimeLines::picture_names))]
 fn push_names(out: &mut String, job: Job<'_>) -> Result<(), AllocError>
     ensures { OnOk result (string_bytes out.new ≡ string_bytes out.old ++ picture_names job.entry) }
@@ -55,7 +54,7 @@ fn push_names(out: &mut String, job: Job<'_>) -> Result<(), AllocError>
     push_element(out, Piece::Description, job.words, Piece::Axis)
 }
 
-// Puts the starts of a job behind a text, which are so many: as marks, or as a band.
+// Appends to a text the starts of a job, given how many there are: as marks, or as a band.
 fn push_starts(
     out: &mut String,
     span: Span,
@@ -95,7 +94,7 @@ fn push_marks(
     Ok(())
 }
 
-// Puts a start behind a text, if it is of the job at a place.
+// Appends a start to a text, if it is of the job at a place.
 fn push_mark_of(
     out: &mut String,
     span: Span,
@@ -121,7 +120,7 @@ fn push_mark(out: &mut String, span: Span, start: TimedStart) -> Result<(), Allo
     push_piece(out, Piece::MarkEnd)
 }
 
-// Puts the begin of a mark at a place behind a text.
+// Appends the beginning of a mark at a place to a text.
 #[tactic(auto, unfolding(crate::specs::TimeLines::rect_text))]
 fn push_rect(out: &mut String, class: &str, at: u64) -> Result<(), AllocError>
     ensures { OnOk result (string_bytes out.new ≡ string_bytes out.old ++ rect_text class.now at) }
@@ -176,7 +175,7 @@ fn change_place(span: Span, change: ClockChange) -> u64
     thousandths(span, change.second)
 }
 
-// Where a second lies in a span, in thousandths of that; one that isn't in it lies at its end.
+// Where a second lies in a span, in thousandths of the span; one outside lies at its end.
 #[tactic(auto, unfolding(crate::specs::TimeLines::thousandths))]
 fn thousandths(span: Span, second: i64) -> u64
     ensures { result ≡ thousandths span second }
@@ -222,7 +221,7 @@ fn count_in(starts: &[JobStart], place: usize) -> u64
     count
 }
 
-// How many starts a start counts of the job at a place.
+// How many starts of the job at a place an entry counts: 0 if it is of another job.
 fn counted_at(start: JobStart, place: usize) -> u64
     ensures value { result ≡ counted_at place start }
     ensures bound { result < 2 ^ 32 }

@@ -1,4 +1,4 @@
-//! What a plan has, with what its clock shows then.
+//! The parts of a plan, each with what its clock shows then.
 ghost use Rattle.std.specs.Prelude.{◌≡◌, [], ◌∷◌, ◌++◌, List, IfOk, OnOk};
 ghost use Rattle.croner_base.specs.TableZone.{table_zone};
 ghost use Rattle.cronplan.specs.declared.changes.ClockChange.{ClockChange};
@@ -36,7 +36,7 @@ pub struct TimedMoment {
 #[derive(Debug, Clone, Copy)]
 pub struct TimedWindow {
     pub window: Window,
-    /// What the clock shows where it begins, and where it ends.
+    /// What the clock shows at its beginning, and at its end.
     pub from: ClockTime,
     pub until: ClockTime,
 }
@@ -45,7 +45,7 @@ pub struct TimedWindow {
 #[derive(Debug, Clone, Copy)]
 pub struct TimedChange {
     pub change: ClockChange,
-    /// What it shows the second before, and what then.
+    /// What it shows the second before, and at the change.
     pub before: ClockTime,
     pub shown: ClockTime,
 }
@@ -54,11 +54,11 @@ pub struct TimedChange {
 #[derive(Clone, Copy)]
 pub struct NamedDay<'d> {
     pub day: &'d Day,
-    /// Its first second as the calendar has it. `None` where the calendar hasn't it.
+    /// Its first second as a date and time. `None` where the calendar doesn't have it.
     pub civil: Option<CivilDateTime>,
 }
 
-/// Starts on the clock of a table. The only error is want of memory.
+/// Starts on the clock of a table. The only error is lack of memory.
 pub(crate) fn timed_starts(
     alloc: Global,
     table: &ClockTable,
@@ -86,7 +86,7 @@ fn push_start(
     Ok(())
 }
 
-/// Moments on the clock of a table. The only error is want of memory.
+/// Moments on the clock of a table. The only error is lack of memory.
 pub(crate) fn timed_moments(
     alloc: Global,
     table: &ClockTable,
@@ -114,7 +114,7 @@ fn push_moment(
     Ok(())
 }
 
-/// Windows on the clock of a table. The only error is want of memory.
+/// Windows on the clock of a table. The only error is lack of memory.
 pub(crate) fn timed_windows(
     alloc: Global,
     table: &ClockTable,
@@ -147,7 +147,7 @@ fn push_window(
     Ok(())
 }
 
-/// Changes of the clock of a table. The only error is want of memory.
+/// Changes of the clock of a table. The only error is lack of memory.
 pub(crate) fn timed_changes(
     alloc: Global,
     table: &ClockTable,
@@ -186,7 +186,7 @@ fn timed_change(table: &ClockTable, change: ClockChange) -> TimedChange
     }
 }
 
-/// Dates, as the calendar has them. The only error is want of memory.
+/// Dates, as the calendar has them. The only error is lack of memory.
 pub(crate) fn named_days<'d>(
     alloc: Global,
     days: &'d [Day],

@@ -12,8 +12,8 @@ use std::alloc::AllocError;
 
 const SECONDS_PER_DAY: i64 = 86_400;
 
-/// Puts the table of some days behind a text of a page, and what its signs mean. The only error is want of memory; what then stands behind
-/// the text is not said.
+/// Appends the table of some days to the text of a page, and what its signs mean. The only error is lack of memory; the text's end is then
+/// unspecified.
 #[tactic(auto, unfolding(crate::specs::Weeks::week_text))]
 pub(crate) fn push_week(out: &mut String, days: &[NamedDay<'_>]) -> Result<(), AllocError>
     ensures { OnOk result (string_bytes out.new ≡ string_bytes out.old ++ week_text days.now) }
@@ -45,7 +45,7 @@ fn push_row(out: &mut String, day: NamedDay<'_>) -> Result<(), AllocError>
     push_day_cells(out, day.day)
 }
 
-// Puts the cells of a day behind its name.
+// Appends the cells of a day after its name.
 #[tactic(auto, unfolding(crate::specs::Weeks::day_cells))]
 fn push_day_cells(out: &mut String, day: &Day) -> Result<(), AllocError>
     ensures { OnOk result (string_bytes out.new ≡ string_bytes out.old ++ day_cells day.now) }
@@ -75,14 +75,14 @@ fn push_cell(out: &mut String, cell: HourCell) -> Result<(), AllocError>
     push_count(out, class_of(cell.repeated), cell.starts)
 }
 
-// The class of an hour that the clock shows twice, and of others.
+// The class of an hour, which differs if the clock shows it twice.
 fn class_of(repeated: bool) -> &'static str
     ensures { result.now ≡ class_of repeated }
 {
     if repeated { "t " } else { "" }
 }
 
-// Puts the count of an hour behind a text: nothing where it is 0.
+// Appends the count of an hour to a text: nothing where it is 0.
 #[tactic(auto, unfolding(crate::specs::Weeks::count_text))]
 fn push_count(out: &mut String, class: &str, starts: u64) -> Result<(), AllocError>
     ensures { OnOk result (string_bytes out.new ≡ string_bytes out.old ++ count_text class.now starts) }
@@ -94,7 +94,7 @@ fn push_count(out: &mut String, class: &str, starts: u64) -> Result<(), AllocErr
     write!(out, "<td class=\"{class}s{step}\">{starts}</td>")
 }
 
-// How dark an hour is: by doubling, from 0 to 8.
+// How dark an hour is, in doubling steps from 0 to 8.
 fn step_of(starts: u64) -> u8
     ensures { result ≡ step_of starts }
 {
@@ -120,7 +120,7 @@ fn push_fullest_cell(out: &mut String, fullest: Option<Moment>) -> Result<(), Al
     push_piece(out, Piece::CellEnd)
 }
 
-// Puts the fullest moment of a day behind a text, if it has one.
+// Appends the fullest moment of a day to a text, if it has one.
 fn push_fullest(out: &mut String, fullest: Option<Moment>) -> Result<(), AllocError>
     ensures { OnOk result (string_bytes out.new ≡ string_bytes out.old ++ fullest_of fullest) }
 {
@@ -134,7 +134,7 @@ fn push_fullest(out: &mut String, fullest: Option<Moment>) -> Result<(), AllocEr
     }
 }
 
-// Puts the hour and the minute of a second of the day behind a text, as `02:30`.
+// Appends the hour and the minute of a second of the day to a text, as `02:30`.
 fn push_hour(out: &mut String, second: u64) -> Result<(), AllocError>
     ensures { OnOk result (string_bytes out.new ≡ string_bytes out.old ++ hour_text second) }
 {
@@ -142,7 +142,7 @@ fn push_hour(out: &mut String, second: u64) -> Result<(), AllocError>
     write!(out, "{hour:02}:{minute:02}")
 }
 
-// The second of its day that a wall second is, from 0 to 86,399.
+// The second of the day of a wall second, from 0 to 86,399.
 fn second_of_day(wall: i64) -> u64
     ensures { result ≡ second_of_day wall }
 {

@@ -14,10 +14,10 @@ use std::alloc::AllocError;
 
 const DAYS_PER_WEEK: i64 = 7;
 
-/// How many days 1970-01-01 comes behind a Sunday.
+/// How many days 1970-01-01 is after a Sunday.
 const FIRST_WEEKDAY: u32 = 4;
 
-/// Puts so many of a thing behind a text of a page. The only error is want of memory; what then stands behind the text is not said.
+/// Appends a number of things to the text of a page, as `5 jobs`. The only error is lack of memory; the text's end is then unspecified.
 #[tactic(auto, unfolding(crate::specs::Words::many_text))]
 pub(crate) fn push_many(out: &mut String, count: u64, name: &str) -> Result<(), AllocError>
     ensures { OnOk result (string_bytes out.new ≡ string_bytes out.old ++ many_text count name.now) }
@@ -32,7 +32,7 @@ fn plural_of(count: u64) -> &'static str
     if count == 1 { "" } else { "s" }
 }
 
-/// Puts what a clock shows behind a text of a page, as `Sun 2027-03-28 03:00:00 +02:00`. The only error is want of memory.
+/// Appends to the text of a page what a clock shows, as `Sun 2027-03-28 03:00:00 +02:00`. The only error is lack of memory.
 #[tactic(auto, unfolding(crate::specs::Words::time_text))]
 pub(crate) fn push_time(out: &mut String, time: ClockTime) -> Result<(), AllocError>
     ensures { OnOk result (string_bytes out.new ≡ string_bytes out.old ++ time_text time) }
@@ -40,7 +40,7 @@ pub(crate) fn push_time(out: &mut String, time: ClockTime) -> Result<(), AllocEr
     write!(out, "{time}")
 }
 
-/// Puts one and another behind a text of a page. The only error is want of memory.
+/// Appends two times, with `to` between them, to the text of a page. The only error is lack of memory.
 #[tactic(auto, unfolding(crate::specs::Words::between_text))]
 pub(crate) fn push_between(
     out: &mut String,
@@ -54,7 +54,7 @@ pub(crate) fn push_between(
     push_time(out, until)
 }
 
-/// Puts how long something lasts behind a text of a page, as `9h 30m`. The only error is want of memory.
+/// Appends to the text of a page how long something lasts, as `9h 30m`. The only error is lack of memory.
 #[tactic(auto, unfolding(crate::specs::Words::duration_text))]
 pub(crate) fn push_duration(out: &mut String, seconds: u64) -> Result<(), AllocError>
     ensures { OnOk result (string_bytes out.new ≡ string_bytes out.old ++ duration_text seconds) }
@@ -63,7 +63,7 @@ pub(crate) fn push_duration(out: &mut String, seconds: u64) -> Result<(), AllocE
     write!(out, "{lasting}")
 }
 
-/// Puts the title of the job at a place behind a text of a page, if there is one. The only error is want of memory.
+/// Appends the title of the job at a place to the text of a page, if there is one. The only error is lack of memory.
 pub(crate) fn push_title(out: &mut String, jobs: &[Job<'_>], place: usize) -> Result<(), AllocError>
     ensures { OnOk result (string_bytes out.new ≡ string_bytes out.old ++ title_text jobs.now place) }
 {
@@ -73,8 +73,8 @@ pub(crate) fn push_title(out: &mut String, jobs: &[Job<'_>], place: usize) -> Re
     }
 }
 
-/// Puts the title of the job at a place behind a text of a page, and how many times it is started, where that isn't once. The only error is
-/// want of memory.
+/// Appends to the text of a page the title of the job at a place, and how many times it is started, unless once. The only error is lack of
+/// memory.
 #[tactic(auto, unfolding(crate::specs::Words::started_text))]
 pub(crate) fn push_started(
     out: &mut String,
@@ -88,7 +88,7 @@ pub(crate) fn push_started(
     push_times(out, count)
 }
 
-/// Puts how many times a job is started at one second behind a text of a page, where that isn't once. The only error is want of memory.
+/// Appends to the text of a page how many times a job is started at one second, unless once. The only error is lack of memory.
 pub(crate) fn push_times(out: &mut String, count: u32) -> Result<(), AllocError>
     ensures { OnOk result (string_bytes out.new ≡ string_bytes out.old ++ times_text count) }
 {
@@ -98,7 +98,7 @@ pub(crate) fn push_times(out: &mut String, count: u32) -> Result<(), AllocError>
     write!(out, " ({count} times)")
 }
 
-/// Puts the name of a date behind a text of a page, as `Sun 2027-03-28`. The only error is want of memory.
+/// Appends the name of a date to the text of a page, as `Sun 2027-03-28`. The only error is lack of memory.
 #[tactic(auto, unfolding(crate::specs::Words::date_name))]
 pub(crate) fn push_date_name(out: &mut String, day: NamedDay<'_>) -> Result<(), AllocError>
     ensures { OnOk result (string_bytes out.new ≡ string_bytes out.old ++ date_name day.entry) }

@@ -1,4 +1,4 @@
-//! Questions of a clock that have lists of runs or readings as answers.
+//! Questions about a clock whose answers are lists of runs, or readings.
 
 use croner::time::Direction;
 use croner_rows::{
@@ -8,7 +8,7 @@ use croner_rows::{
 use serde_json::Value;
 use std::alloc::Global;
 
-/// What is asked of a start.
+/// What is asked from a start.
 #[derive(Clone, Copy)]
 pub enum Ask<'j> {
     /// Searches in a direction.
@@ -71,7 +71,7 @@ fn runs<T: Moment>(
     Ok(Value::Array(runs))
 }
 
-// The answers of so many calls of `next`.
+// The answers of a number of calls of `next`.
 fn items<T: Moment>(
     alloc: Global,
     question: &Value,

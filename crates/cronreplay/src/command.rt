@@ -6,7 +6,7 @@ use cronrun_command::run;
 use serde_json::Value;
 use std::alloc::{AllocError, Global};
 
-/// What `cronrun` answers to words: its status and what its writers take.
+/// What `cronrun` answers to words: its status, and what its writers take.
 pub fn cronrun(alloc: Global, question: &Value) -> Result<Value> {
     let words = words(alloc, list(question, "words")?)?;
     let mut out = Failing::new(alloc, question.get("out"))?;

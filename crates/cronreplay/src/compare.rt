@@ -5,7 +5,7 @@ use croner_rows::{Job, Result, hash_of, member, shown, switch, text};
 use serde_json::Value;
 use std::alloc::Global;
 
-/// The order of two patterns, and whether they are equal; or `"hash"` where they are equal and hash apart.
+/// The order of two patterns, and whether they are equal; or `"hash"` where they are equal but their hashes differ.
 pub fn compare(alloc: Global, question: &Value) -> Result<Value> {
     let a = pattern_of(alloc, member(question, "a")?)?;
     let b = pattern_of(alloc, member(question, "b")?)?;
@@ -22,7 +22,7 @@ fn compared(alloc: Global, a: &CronPattern, b: &CronPattern) -> Result<Value> {
     shown::object(alloc, answer)
 }
 
-// The pattern of a text that is parsed, or only made of it.
+// The pattern of a text, parsed or only made with it.
 fn pattern_of(alloc: Global, side: &Value) -> Result<CronPattern> {
     if switch(side, "unparsed")? {
         return Ok(CronPattern::new(alloc, text(side, "text")?)?);

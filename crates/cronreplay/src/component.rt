@@ -1,4 +1,4 @@
-//! Calls of one field after another, and the order of two fields.
+//! Calls of one field in turn, and the order of two fields.
 
 use croner::component::CronComponent;
 use croner::errors::CronError;
@@ -8,7 +8,7 @@ use croner_rows::{
 use serde_json::Value;
 use std::alloc::Global;
 
-/// The answers of calls of one field, and what it holds afterwards.
+/// The answers of calls of one field in turn, and what it holds afterwards.
 pub fn component(alloc: Global, question: &Value) -> Result<Value> {
     let mut component = read_field(alloc, question)?;
     called_in_turn(alloc, question, &mut component)

@@ -11,7 +11,7 @@ use serde_json::Value;
 use std::alloc::Global;
 use std::fmt::Debug;
 
-/// What `Debug` shows of a value by its name; where the question says how that begins and ends, true if it does.
+/// What `Debug` shows of a value, given by name; if the question says how that begins and ends, whether it does.
 pub fn debug(alloc: Global, question: &Value) -> Result<Value> {
     let shown = value(alloc, text(question, "value")?)?;
     if question.get("begin").is_none() {

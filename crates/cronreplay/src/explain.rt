@@ -7,7 +7,7 @@ use croner_rows::{Fault, Job, Result, read_parser, shown, text};
 use serde_json::Value;
 use std::alloc::Global;
 
-/// The bytes of the fault and the message of a refused text; `"accepted"` where neither `explain` nor `parse` refuses it.
+/// The place of the fault in bytes, and the message of a refused text; `"accepted"` where neither `explain` nor `parse` refuses it.
 pub fn explain(alloc: Global, question: &Value) -> Result<Value> {
     let (parser, text) = (read_parser(question)?, text(question, "text")?);
     match (
@@ -22,7 +22,7 @@ pub fn explain(alloc: Global, question: &Value) -> Result<Value> {
     }
 }
 
-// The message of `parse` where it is of the fault's kind and has what the fault says.
+// The message of `parse`, if its error is of the fault's kind and it contains what the fault says.
 fn told(alloc: Global, fault: &PatternFault, error: &CronError) -> Result<Value> {
     if !is_kind(error, fault.kind) {
         return shown::text(alloc, "of another kind");
@@ -46,7 +46,7 @@ fn is_kind(error: &CronError, kind: FaultKind) -> bool {
     }
 }
 
-/// What is suggested for a refused text, and the values of a field where it stands in the fault's place; null where nothing is.
+/// What is suggested for a refused text, and the values of a field with it in the fault's place; null where nothing is suggested.
 pub fn suggest(alloc: Global, question: &Value) -> Result<Value> {
     let text = text(question, "text")?;
     let Some(fault) = read_parser(question)?.explain(alloc, text)? else {

@@ -1,4 +1,4 @@
-//! Jobs as JSON: what is printed of them, and texts that are read again.
+//! Jobs as JSON: how they are printed, and whether they are read back.
 
 use croner::Cron;
 use croner_rows::{Fault, Job, Result, member, printed, shown};
@@ -11,8 +11,8 @@ pub fn json_again(alloc: Global, question: &Value) -> Result<Value> {
     Ok(job.cron.to_json()?)
 }
 
-/// What is printed of a job's JSON, and whether its text, read again by the parser of the question, gives an equal job with
-/// the same text.
+/// A job's JSON as it is printed, and whether the parser of the question reads an equal job with the same text from its
+/// text.
 pub fn reread(alloc: Global, question: &Value, job: &Job) -> Result<Value> {
     let again = is_read_again(alloc, question, &job.cron)?;
     let json = Value::String(printed(alloc, &job.cron.to_json()?)?);

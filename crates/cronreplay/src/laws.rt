@@ -1,4 +1,4 @@
-//! The laws whose calls take memory, once each with enough of it.
+//! The laws whose calls take memory, each once with enough of it.
 
 use croner::CronIterator;
 use croner::describe::lang::english::English;

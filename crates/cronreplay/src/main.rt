@@ -1,6 +1,6 @@
-//! `cronreplay`: holds the library against answers that were not taken from it. Each line of
-//! standard input is a question with the answer that is wanted, as JSON. A line whose answer
-//! differs is printed, and a summary comes last.
+//! `cronreplay`: compares the library's answers with answers from elsewhere. Each line of standard
+//! input is a question with the wanted answer, as JSON. A line whose answer differs is printed, and
+//! a summary comes last.
 #![tactic(auto)]
 
 mod answers;

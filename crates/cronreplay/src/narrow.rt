@@ -1,4 +1,4 @@
-//! Searches over a backend that holds what lies between two instants, and iterators over it, as the two are moved.
+//! Searches and iterators over a backend that holds only the instants between two bounds, as the bounds are moved.
 
 use croner::errors::CronError;
 use croner::time::table::TableTime;
@@ -10,7 +10,7 @@ use croner_rows::{
 use serde_json::Value;
 use std::alloc::Global;
 
-/// The answer between each two bounds; where the question says `once`, each answer once.
+/// The answer for each two bounds; if the question says `once`, each answer once.
 pub fn as_bounds_move(alloc: Global, question: &Value, job: &Job) -> Result<Value> {
     let (how, once) = (How::read(question)?, switch(question, "once")?);
     let table = clock_table(alloc, member(question, "zone")?)?;
@@ -26,7 +26,7 @@ pub fn as_bounds_move(alloc: Global, question: &Value, job: &Job) -> Result<Valu
     Ok(Value::Array(answers))
 }
 
-// A search's answer, where an iterator gives it too, else both. An iterator that keeps a fault gives it again.
+// A search's answer if an iterator gives the same, or else both. An iterator that keeps a fault gives it again.
 fn answer_between(
     alloc: Global,
     subject: Subject<'_>,

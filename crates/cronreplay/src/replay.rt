@@ -1,4 +1,4 @@
-//! The replay: what each question answers, and whether that is what is wanted.
+//! The replay: the answer of each question, and whether it is the wanted one.
 
 use crate::question::answer;
 use croner::errors::CronError;
@@ -37,8 +37,8 @@ impl Tool for Replay {
     }
 }
 
-// A refusal as a question wants it: the name of its variant; where its `message` is `"whole"`, the message; and where that is
-// a number of bytes, the name of a refusal whose message has no more of them, else how many it has.
+// A refusal as the question wants it: the name of its variant, or, if the member `message` is `"whole"`, the message. If that
+// member is a number of bytes, it is the name if the message has no more bytes, or else how many it has.
 fn refused(alloc: Global, question: &Value, error: &CronError) -> Result<Value> {
     match question.get("message") {
         None => shown::refused(alloc, error),

@@ -1,4 +1,4 @@
-//! Schedulers: what calls one after another answer.
+//! Schedulers: the answers of calls in turn.
 
 use croner::Clocked;
 use croner_rows::{
@@ -26,7 +26,7 @@ impl<'q> OverClocks for Calls<'q> {
     }
 }
 
-/// The answers of the calls of a question, over a scheduler that has no job before them.
+/// The answers of the calls of a question, on a scheduler that begins without jobs.
 pub fn scheduler(alloc: Global, question: &Value) -> Result<Value> {
     over_clocks(Caller::unmarked(alloc), question, &Calls { question })?.into_value(alloc)
 }

@@ -1,4 +1,4 @@
-//! What Debian's cron starts of a line of a crontab, on the clock of a table.
+//! When Debian's cron starts a line of a crontab, on the clock of a table.
 
 use croner::time::Direction;
 use croner::time::table::{ClockTable, TableTime};
@@ -8,7 +8,7 @@ use crontab_runs::{CrontabJob, Start, StartsEnd, next_starts_until};
 use serde_json::Value;
 use std::alloc::Global;
 
-/// What cron starts of the line of a question, on the clock of its member `zone`.
+/// When cron starts the line of a question, on the clock of its member `zone`.
 pub fn starts(alloc: Global, question: &Value) -> Result<Value> {
     let table = clock_table(alloc, member(question, "zone")?)?;
     starts_on(alloc, question, &table)
@@ -76,7 +76,7 @@ fn nearest(job: &CrontabJob, at: &TableTime<'_>, direction: Direction) -> Option
     }
 }
 
-// The second from which a search goes on behind a start.
+// The second from which a search goes on after a start.
 fn second_behind(start: Start, direction: Direction) -> i64 {
     match direction {
         Direction::Forward => start.second,

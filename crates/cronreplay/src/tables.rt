@@ -1,4 +1,4 @@
-//! Tables of patterns: what they hold, how they change, and listings that are taken up.
+//! Tables of patterns: what they hold, how they change, and listings that are resumed.
 
 use croner::crontable::CronTable;
 use croner::errors::CronError;
@@ -19,7 +19,7 @@ pub fn place(alloc: Global, question: &Value, table: &CronTable) -> Result<Value
     shown::object(alloc, answer)
 }
 
-/// The text of the job that a change gives back, those of the jobs that stand then, in order, and the places of the next run
+/// The text of the job that a change returns, those of the jobs then in the table, in order, and the places of the next run
 /// after a start.
 pub fn change(alloc: Global, question: &Value) -> Result<Value> {
     let mut table = Table::read(alloc, question)?;
@@ -54,7 +54,7 @@ fn next_places(alloc: Global, question: &Value, table: &CronTable) -> Result<Val
     }
 }
 
-/// The first two items of a listing, whether it is over, and the next item of one that is taken up at the second.
+/// The first two items of a listing, whether it is over, and the next item of one that is resumed from the second.
 pub fn taken_up(alloc: Global, question: &Value, table: &CronTable) -> Result<Value> {
     let table = table.clone()?;
     let start = civil_value(question, "start")?;

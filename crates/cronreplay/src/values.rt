@@ -1,4 +1,4 @@
-//! Single values: those of a field, the numbers of parts, weekdays, and texts, also those of languages that no description has.
+//! Single values: those of a field, the numbers of parts, weekdays, and texts, also those of languages that no description uses.
 
 use croner::Cron;
 use croner::describe::Language;
@@ -36,7 +36,7 @@ pub fn date(alloc: Global, question: &Value) -> Result<Value> {
     Ok(Value::String(date.to_string(alloc)?))
 }
 
-/// What a language says at each minute of every 5 hours, and between the last two items of a list.
+/// What a language says for each minute of every 5 hours, and between the last two items of a list.
 pub fn words_of_language(alloc: Global, question: &Value) -> Result<Value> {
     match text(question, "language")? {
         "english" => said(alloc, &English, text(question, "words")?),

@@ -10,18 +10,18 @@ use std::io::Write;
 #[derive(Drop)]
 pub struct Failing {
     pub taken: Vec<u8>,
-    /// How many bytes it has room for: what doesn't fit fails, and a flush where none is left.
+    /// How many bytes it has room for. A write that doesn't fit fails, and so does a flush if no room is left.
     room: usize,
-    /// How many bytes a write takes at most.
+    /// The most bytes that one write takes.
     most: usize,
-    /// How many writes don't fail.
+    /// How many writes succeed.
     writes: usize,
-    /// How many flushes don't fail.
+    /// How many flushes succeed.
     flushes: usize,
 }
 
 impl Failing {
-    /// The writer of a question, by its members. What is left out has no bound.
+    /// The writer of a question, by its members. A limit that is left out is none.
     pub fn new(alloc: Global, limits: Option<&Value>) -> Result<Failing> {
         Ok(Failing {
             taken: Vec::new(alloc),

@@ -7,7 +7,7 @@ use Rattle.std.specs.declared.io.Error.{Error}
 use Rattle.cronrun_command.specs.Stop.{stop_text}
 use Rattle.cronrun_command.specs.declared.stop.Stop.{Stop}
 
--- a writer was given a text, and gave this: where it took the text, it holds that behind what it held
+-- a writer was given a text, and gave this: where it took the text, it holds that after what it held
 abbrev pub Takes : {W : Type 0} → (W → Option (List ℕ)) → (W → List ℕ → Result (Unit {0}) Error → W → Type 0)
     → W → List ℕ → Result (Unit {0}) Error → W → Type 0
 Takes contents writes old text gave new = writes old text gave new × OnOk gave (Appends (contents old) (contents new) text)

@@ -13,6 +13,6 @@ start_instant (Some (Ambiguous i j)) = Some i
 start_instant (Some Gap) = None
 start_instant None = None
 
--- InvalidTime where no instant is named, or want of memory where it can lack
+-- InvalidTime where no instant is named, or lack of memory where it can lack
 abbrev pub IsNoStart : Bool → Option ℤ → CronError → Type 0
 IsNoStart lack start e = ((e ≡ InvalidTime) × (start ≡ None)) ⊎ ((e ≡ OutOfMemory) × IsTrue lack)

@@ -1,4 +1,4 @@
-//! Answering a call: what stands on standard output, and the refusal that ended it. Nothing is written here.
+//! Answering a call: the text for standard output, and the refusal that ended it. Nothing is written here.
 ghost use Rattle.std.specs.Prelude.{◌≡◌, ◌↔◌, ◌++◌, ◌∷◌, [], ℤ, Ok, Some, None, IsTrue, IfOk, IfErr, OnOk, string_bytes};
 ghost use Rattle.croner_base.specs.Civil.{wall_second};
 ghost use Rattle.croner_base.specs.CivilZone.{civil_zone};
@@ -23,20 +23,20 @@ use jiff::civil::DateTime;
 use jiff::{Timestamp, Zoned};
 use std::alloc::Global;
 
-// A value of civil time. Any serves, to look a date and time up on its clock.
+// A value of civil time, to look up a date and time on its clock. Any will do.
 const CIVIL_CLOCK: DateTime = DateTime::MIN;
 
-/// What a call comes to, before it is written.
+/// The answer of a call, before it is written.
 #[derive(Drop)]
 pub struct Answer {
-    /// What stands on standard output: the whole answer, or the lines that were found before a refusal.
+    /// The text for standard output: the whole answer, or the lines found before a refusal.
     pub text: String,
-    /// Why the answer isn't whole.
+    /// Why the answer isn't complete.
     pub refusal: Option<CronError>,
 }
 
 impl Answer {
-    /// A whole answer, or a refusal with no text.
+    /// A complete answer, or a refusal without a text.
     pub fn of(alloc: Global, text: Result<String, CronError>) -> Answer
         ensures text { IfOk text (λ found. (result.text ≡ found) × (result.refusal ≡ None)) }
         ensures refusal { IfErr text (λ e. (string_bytes result.text ≡ []) × (result.refusal ≡ Some e)) }
@@ -94,7 +94,7 @@ fn description_line(alloc: Global, pattern: &str) -> Result<String, CronError>
     ended(text)
 }
 
-// A text with a line feed behind it.
+// A text with a line feed after it.
 fn ended(mut text: String) -> Result<String, CronError>
     ensures value { IfOk result (λ line. string_bytes line ≡ string_bytes text ++ 10 ∷ []) }
     ensures err { IfErr result (λ e. e ≡ CronError.OutOfMemory) }

@@ -7,13 +7,13 @@ ghost use Rattle.cronrun_command.specs.Count.{IsCountText};
 // The most runs that a call lists.
 const MOST_RUNS: u32 = 1000;
 
-/// Reads a count of runs: decimal digits alone that write a number from 1 to 1000, with any number
-/// of zeros in front. `None` for every other text.
+/// Reads a count of runs: decimal digits only, for a number from 1 to 1000, with any number of
+/// leading zeros. `None` for every other text.
 pub fn read_count(text: &str) -> Option<u32>
     ensures reads { IfSome result (IsCountText text.now) }
     ensures finds { (n : ℕ) → IsCountText text.now n → result ≡ Some n }
 {
-    // `parse` alone would take a plus in front.
+    // `parse` alone would accept a leading plus.
     if !is_digits(text) {
         return None;
     }

@@ -31,33 +31,34 @@ pub const ANSWERED: u8 = 0;
 /// The status of a call that was refused, or whose answer could not be written.
 pub const REFUSED: u8 = 1;
 
-/// The status of words that are no call.
+/// The status of words that aren't a call.
 pub const MISUSED: u8 = 2;
 
 const USAGE: &str =
     "usage: cronrun match PATTERN DATETIME | next PATTERN DATETIME COUNT [RULE] | prev PATTERN DATETIME COUNT [RULE] | describe PATTERN";
 
-/// Answers the call that the words name, on two writers for standard output and standard error,
-/// and gives the status of the process.
+/// Answers the call that the words name, on two writers for standard output and standard error, and
+/// returns the status of the process.
 ///
-/// The words are those behind the program's own name. `match PATTERN DATETIME` writes `true` or
-/// `false`. `next PATTERN DATETIME COUNT` writes the runs after the start, the nearest first and
-/// one a line, and `prev` in its place those before it. A word RULE behind the count names the
-/// zone of the start. Without it a line is what the clock shows; with it the second since
-/// 1970-01-01T00:00:00 UTC follows, behind a space. `describe PATTERN` writes the pattern's
-/// description in English as a line.
+/// The words are those after the program's own name. `match PATTERN DATETIME` writes `true` or
+/// `false`. `next PATTERN DATETIME COUNT` writes the runs after the start, one a line, the nearest
+/// first; with `prev` instead, those before it. A word RULE after the count names the zone of the
+/// start. Without it a line is what the clock shows; with it a space and the second since
+/// 1970-01-01T00:00:00 UTC follow. `describe PATTERN` writes the pattern's description in English
+/// as a line.
 ///
-/// The default parser reads PATTERN. DATETIME is `YYYY-MM-DDTHH:MM:SS`, COUNT is decimal digits
-/// that write a number from 1 to 1000, and RULE is a POSIX rule. A DATETIME that the zone's clock
-/// shows twice names the earlier instant.
+/// The default parser reads PATTERN. DATETIME is `YYYY-MM-DDTHH:MM:SS`, COUNT is a number from 1 to
+/// 1000 in decimal digits, and RULE is a POSIX rule. A DATETIME that the zone's clock shows twice
+/// names the earlier instant.
 ///
-/// The status is [`MISUSED`] with the usage line on standard error where the words are no call;
-/// [`REFUSED`] with the error's text as a line there where the pattern is refused, the zone's clock
-/// never shows DATETIME or doesn't reach it, fewer than COUNT runs are found, memory is lacking, or
-/// standard output does not take the answer; else [`ANSWERED`]. The words are looked at first, then
-/// the pattern, then the start. The runs that were found before a refusal stand on standard output:
-/// the refusal is then the fault of the iterator over them, the limit of a search where there is
-/// none, or want of room for a further line. A failed write to standard error changes no status.
+/// The status is [`MISUSED`], with the usage line on standard error, if the words aren't a call. It
+/// is [`REFUSED`], with the error's text as a line there, if the pattern is refused, or the zone's
+/// clock never shows DATETIME or doesn't reach it. So it is if fewer than COUNT runs are found,
+/// memory is lacking, or standard output doesn't take the answer. Otherwise it is [`ANSWERED`]. The
+/// words are checked first, then the pattern, then the start. Runs found before a refusal are on
+/// standard output. The refusal is then the fault of the iterator over them, the limit of a search
+/// if there is none, or lack of memory for another line. A failed write to standard error doesn't
+/// change the status.
 pub fn run<O: Output, E: Output>(alloc: Global, words: &[String], out: &mut O, err: &mut E) -> u8
     ensures known { result ≤ 2 }
     ensures call { IsCall (map string_bytes words.now) → result ≤ 1 }
@@ -74,7 +75,7 @@ pub fn run<O: Output, E: Output>(alloc: Global, words: &[String], out: &mut O, e
     conclude(answer_to(alloc, request), out, err)
 }
 
-// Writes an answer, and the reason where it stops, and gives the status.
+// Writes an answer, and the reason if it stops early, and returns the status.
 fn conclude<O: Output, E: Output>(answer: Answer, out: &mut O, err: &mut E) -> u8
     ensures known { result ≤ 1 }
     ensures ended { IsEnded (string_bytes answer.text) answer.refusal
@@ -85,7 +86,7 @@ fn conclude<O: Output, E: Output>(answer: Answer, out: &mut O, err: &mut E) -> u
     report(stop_of(answer.refusal, delivered), err)
 }
 
-// Writes why a call stops, if it does, and gives its status.
+// Writes why a call stops early, if it does, and returns its status.
 fn report<E: Output>(stop: Option<Stop>, err: &mut E) -> u8
     ensures status { result ≡ status_of stop }
     ensures told { IsTold E.contents E.writes err.old stop err.new }
@@ -99,7 +100,7 @@ fn report<E: Output>(stop: Option<Stop>, err: &mut E) -> u8
     }
 }
 
-/// Writes the usage line, and gives the status of words that are no call.
+/// Writes the usage line, and returns the status of words that aren't a call.
 pub fn misused<E: Output>(err: &mut E) -> u8
     ensures status { result ≡ 2 }
     ensures usage { IsGiven E.contents E.writes err.old (Some (USAGE.now ++ 10 ∷ [])) err.new }

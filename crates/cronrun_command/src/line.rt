@@ -13,10 +13,10 @@ pub trait Listed: CronDateTime {
     ghost use Rattle.std.specs.Prelude.{Bool};
     ghost use Rattle.cronrun_command.specs.Line.{named_second};
 
-    /// Whether a line names the second of its instant.
+    /// Whether a line also has the second of its instant.
     ghost in_zone: { Bool };
 
-    /// The second since 1970-01-01T00:00:00 UTC, where a line names it.
+    /// The second since 1970-01-01T00:00:00 UTC, if a line has it.
     fn second(&self) -> Option<i64>
         ensures { result ≡ named_second in_zone (Self.moment self.now) };
 }

@@ -8,8 +8,8 @@ use std::io::Write;
 
 /// What takes the text of an answer: every [`Write`].
 ///
-/// Its calls are relations of their own, so that of a type parameter nothing but a call of `write_text` or `flush_text` shows that a
-/// writer took a text, passed it on, or failed.
+/// Its calls have relations of their own. So for a type parameter only a call of `write_text` or `flush_text` can show that a writer
+/// took a text, passed it on, or failed.
 pub trait Output {
     ghost use Rattle.std.specs.Prelude.{ℕ, List, Option, Result, IfSome};
     ghost use Rattle.std.specs.Fmt.{with_newline};
@@ -19,10 +19,10 @@ pub trait Output {
     /// The bytes that it holds, where they are known.
     ghost contents: { Self → Option (List ℕ) };
 
-    /// What a write of these bytes gives and leaves.
+    /// What a write of these bytes returns, and the state that it leaves.
     ghost writes: { Self → List ℕ → Result (Unit {0}) Error → Self → Type 0 };
 
-    /// What a flush gives and leaves.
+    /// What a flush returns, and the state that it leaves.
     ghost flushes: { Self → Result (Unit {0}) Error → Self → Type 0 };
 
     /// Writes a text.
@@ -61,7 +61,7 @@ impl<W: Write> Output for W {
     }
 }
 
-/// Writes a text and passes it on. The error is the one that the writer gave, as it is.
+/// Writes a text and passes it on. The error is the writer's own, unchanged.
 pub fn deliver<O: Output>(text: &str, out: &mut O) -> io::Result<()>
     ensures { Delivers O.contents O.writes O.flushes out.old text.now result out.new }
 {

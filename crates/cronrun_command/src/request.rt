@@ -41,8 +41,8 @@ impl<'w> Request<'w> {
     ghost use Rattle.cronrun_command.specs.Call.{Ask};
     ghost use Rattle.cronrun_command.specs.declared.request.Request.{Request};
 
-    /// Reads the words of a call, or gives `None` where they are none: an unknown command, a wrong
-    /// number of words, or a word that isn't of its form. The pattern isn't looked at.
+    /// Reads the words of a call. `None` where they aren't one: an unknown command, a wrong number
+    /// of words, or a word that doesn't have its form. The pattern isn't looked at.
     pub fn read(words: &'w [String]) -> Option<Request<'w>>
         ensures reads { IfSome result (Ask (map string_bytes words.now)) }
         ensures finds { (r : Request) → Ask (map string_bytes words.now) r → IsSome result }
@@ -133,7 +133,7 @@ impl<'w> Listing<'w> {
     }
 }
 
-// The direction that a command lists in.
+// The direction in which a command lists.
 fn read_direction(command: &str) -> Option<Direction>
     ensures reads { IfSome result (λ d. command.now ≡ command_of d) }
     ensures finds { (d : Direction) → command.now ≡ command_of d → result ≡ Some d }

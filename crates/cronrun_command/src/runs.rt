@@ -22,7 +22,7 @@ use croner::time::CronDateTime;
 use croner::{Cron, CronIterator, Direction};
 use std::alloc::Global;
 
-/// The runs of a listing, one a line, the nearest first. `clock` is any value of the clock that they are listed on.
+/// The runs of a listing, one a line, the nearest first. `clock` is any value on the clock on which they are listed.
 pub fn list<T: Listed>(alloc: Global, listing: &Listing<'_>, clock: &T) -> Answer
     ensures { (T.moment clock.now).zone ≡ zone_of listing.now.zone → T.in_zone ≡ is_some listing.now.zone →
         IsListed T.can_lack_memory listing.now (string_bytes result.text) result.refusal }
@@ -33,7 +33,7 @@ pub fn list<T: Listed>(alloc: Global, listing: &Listing<'_>, clock: &T) -> Answe
     }
 }
 
-// The lines of so many runs, or of those that came before a refusal.
+// The lines of so many runs, or of those before a refusal.
 fn lines<T: Listed>(alloc: Global, mut runs: CronIterator<T>, count: u32) -> Answer
     ensures { Lists T.can_lack_memory T.in_zone (standing_of T.moment runs) count (string_bytes result.text) result.refusal }
 {
@@ -52,7 +52,7 @@ fn lines<T: Listed>(alloc: Global, mut runs: CronIterator<T>, count: u32) -> Ans
     }
 }
 
-// The runs of a listing, from its start on. The pattern is read before the start is looked for.
+// The runs of a listing, from its start on. The pattern is read before the start is looked up.
 fn runs_from<T: CronDateTime>(
     alloc: Global,
     listing: &Listing<'_>,
@@ -71,7 +71,7 @@ fn runs_from<T: CronDateTime>(
     }
 }
 
-// Puts the line of the next run behind the text, or gives the reason why there is none.
+// Appends the line of the next run to the text, or returns the reason why there is none.
 fn add_next<T: Listed>(
     alloc: Global,
     runs: &mut CronIterator<T>,
@@ -88,7 +88,7 @@ fn add_next<T: Listed>(
     }
 }
 
-// Puts a line behind the text. The text stays as it was where room is wanting.
+// Appends a line to the text. Without memory for it the text stays as it was.
 fn add_line(alloc: Global, line: &Line, text: &mut String) -> Result<(), CronError>
     ensures adds { OnOk result
         (string_bytes text.new ≡ string_bytes text.old ++ (line_text line.now.civil line.now.second ++ 10 ∷ [])) }

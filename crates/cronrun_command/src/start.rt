@@ -1,4 +1,4 @@
-//! The instant that a listing starts from.
+//! The instant from which a listing starts.
 ghost use Rattle.std.specs.Prelude.{◌≡◌, Some, IfOk, IfErr};
 ghost use Rattle.croner_base.specs.Civil.{wall_second};
 ghost use Rattle.croner_base.specs.Zone.{Names};
@@ -8,7 +8,7 @@ use croner::errors::CronError;
 use croner::time::{CivilDateTime, CronDateTime, Resolution};
 use std::alloc::Global;
 
-/// The instant at which a clock shows a date and time: of two the earlier. `clock` is any value of
+/// The instant at which a clock shows a date and time; of two, the earlier. `clock` is any value of
 /// that clock.
 ///
 /// `InvalidTime` where the clock never shows it, or doesn't hold it.

@@ -1,4 +1,4 @@
-//! Why a call stops: its answer is not whole, or was not taken.
+//! Why a call stops: its answer isn't complete, or wasn't taken.
 ghost use Rattle.std.specs.Prelude.{◌≡◌};
 ghost use Rattle.cronrun_command.specs.Stop.{stop_of};
 
@@ -27,7 +27,7 @@ impl fmt::Display for Stop {
     }
 }
 
-/// Why a call stops, if it does: the refusal that ended its answer, else the error of the writer that did not take it.
+/// Why a call stops, if it does: the refusal that ended its answer, or else the error of the writer that didn't take it.
 pub fn stop_of(refusal: Option<CronError>, delivered: io::Result<()>) -> Option<Stop>
     ensures { result ≡ stop_of refusal delivered }
 {

@@ -9,7 +9,7 @@ use Rattle.crontab.specs.Bytes.{begins_with}
 use Rattle.crontab.specs.Field.{part_of}
 use Rattle.crontab.specs.List.{first_refused, refused_of_pieces}
 
--- how many bytes pieces have, each with a comma behind it
+-- how many bytes pieces have, each with a comma after it
 abbrev pub reach : List (List ℕ) → ℕ
 reach [] = 0
 reach (piece ∷ pieces) = length piece + 1 + reach pieces
@@ -111,7 +111,7 @@ module _ (place : Place) (pieces : List (List ℕ)) (n : ℕ) (piece : List ℕ)
       sym (goes_piece place pieces n piece whole all start (Some (part, tail)) within is read h
       ∙ tailed start (length piece) part tail more true (length tail == 0) ends refl ∙ here start (length piece))
 
-  -- the field ends behind its part
+  -- the field ends after its part
   pub refused_none : (part : Part) (tail : List ℕ) → part_of place piece ≡ Some (part, tail) → begins_with 255 tail ≡ false → (length tail == 0) ≡ false → None ≡ whole
   refused_none part tail read goes_on some =
       sym (goes_piece place pieces n piece whole all start (Some (part, tail)) within is read h ∙ tailed start (length piece) part tail more false false goes_on some)

@@ -34,11 +34,11 @@ is_of kinds.Alphanumeric b = is_alphanumeric b
 is_of kinds.Name b = not (is_space b || b == 61)
 is_of (kinds.But c) b = not (b == c)
 
--- the bytes of a kind that a text begins with, and what stands behind them
+-- the bytes of a kind that a text begins with, and what follows them
 abbrev pub front : Kind → List ℕ → List ℕ
 front kind text = take (prefix_len (is_of kind) text) text
 
--- what stands behind the bytes of a kind with which a text begins
+-- what follows the bytes of a kind with which a text begins
 abbrev pub behind : Kind → List ℕ → List ℕ
 behind kind text = drop (prefix_len (is_of kind) text) text
 
@@ -52,10 +52,10 @@ abbrev pub rest_of : List ℕ → List ℕ
 rest_of [] = []
 rest_of (b ∷ bs) = bs
 
--- the text up to what stands behind in it
+-- the text up to its end, which is given
 abbrev pub until : List ℕ → List ℕ → List ℕ
 until text behind = take (length text - length behind) text
 
--- the text without the spaces behind it
+-- the text without the spaces after it
 abbrev pub trimmed : List ℕ → List ℕ
 trimmed text = take (length text - suffix_len is_space text) text

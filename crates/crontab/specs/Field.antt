@@ -1,5 +1,5 @@
--- A field of a schedule, as cron(8) reads it: parts between commas, each a star, a number or a name, or a range of two, and behind a
--- star or a range a step. What stands behind a part and is no comma is passed over, with all that follows in the field.
+-- A field of a schedule, as cron(8) reads it: parts between commas, each a star, a number or a name, or a range of two, and after a
+-- star or a range a step. What follows a part and is no comma is passed over, with all the rest of the field.
 use Rattle.std.specs.Prelude.{ℕ, ◌+◌, ◌-◌, ◌*◌, ◌%◌, ◌^◌, Bool, true, false, ◌&&◌, ◌||◌, nat_lt, nat_le, List, [], ◌∷◌, length, fold, map, codes, Option, Some, None, option_map, option_and_then, if◌then◌else◌}
 use Rattle.std.specs.Char.{to_ascii_lowercase}
 use Rattle.std.specs.List.{list_all}
@@ -21,7 +21,7 @@ most = 9_223_372_036_854_775_807
 abbrev pub smaller : ℕ → ℕ → ℕ
 smaller a b = if nat_le a b then a else b
 
--- a number with one more digit behind it
+-- a number with one more digit after it
 abbrev pub with_digit : ℕ → ℕ → ℕ
 with_digit n digit = smaller (10 * n + (digit - 48)) most
 
@@ -57,7 +57,7 @@ value_of given word =
     then option_or (name_of given word) (if list_all is_digit word then Some (number_of word) else None)
     else None
 
--- the value that a text begins with, and what stands behind it
+-- the value that a text begins with, and what follows it
 abbrev pub value_at : Names → List ℕ → Option (ℕ × List ℕ)
 value_at given text = option_map (λ n. (n, behind kinds.Alphanumeric text)) (value_of given (front kinds.Alphanumeric text))
 
@@ -66,7 +66,7 @@ value_at given text = option_map (λ n. (n, behind kinds.Alphanumeric text)) (va
 abbrev pub is_within : Place → ℕ → Bool
 is_within place n = nat_le place.first n && nat_le n place.last
 
--- a step: from 1 on, and below 2 ^ 31 also behind the first value, where there is one
+-- a step: from 1 on, and below 2 ^ 31 also after the first value, where there is one
 abbrev pub is_step : ℕ → ℕ → ℕ → Bool
 is_step first last step = nat_lt 0 step && (nat_lt step (2 ^ 31) && (nat_lt last first || nat_lt (first + step) (2 ^ 31)))
 
@@ -76,7 +76,7 @@ ranged place star first last step rest =
     if is_within place first && (is_within place last && is_step first last step)
     then Some (record { is_star = star; first = first; last = last; step = step }, rest) else None
 
--- a star or a range, and the step behind it
+-- a star or a range, and the step after it
 abbrev pub stepped : Place → Bool → ℕ → ℕ → List ℕ → Option (Part × List ℕ)
 stepped place star first last rest =
     if begins_with 47 rest
@@ -91,7 +91,7 @@ from_value place first rest =
     else if begins_with 47 rest then None
     else ranged place false first first 1 rest
 
--- the part that a text begins with, and what stands behind it
+-- the part that a text begins with, and what follows it
 abbrev pub part_of : Place → List ℕ → Option (Part × List ℕ)
 part_of place text =
     if begins_with 42 text then stepped place true place.first place.last (rest_of text)

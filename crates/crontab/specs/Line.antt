@@ -52,7 +52,7 @@ month_place = record { first = 1; last = 12; names = names.Months }
 abbrev pub weekday_place : Place
 weekday_place = record { first = 0; last = 7; names = names.Weekdays }
 
--- the five words, and what stands behind them
+-- the five words, and what follows them
 pub record Five : Type 0 where
   pub minutes : List ℕ
   pub hours : List ℕ
@@ -61,11 +61,11 @@ pub record Five : Type 0 where
   pub weekdays : List ℕ
   pub rest : List ℕ
 
--- what stands behind the first word and the blanks after it
+-- what follows the first word and the blanks after it
 abbrev pub next : List ℕ → List ℕ
 next text = behind kinds.Blank (behind kinds.Word text)
 
--- what stands at once behind the fifth word
+-- what directly follows the fifth word
 abbrev pub behind_fields : List ℕ → List ℕ
 behind_fields text = behind kinds.Word (next (next (next (next text))))
 
@@ -157,7 +157,7 @@ with_command times schedule user command =
     if nat_lt command_length (length command) then refused faults.LongCommand
     else job (record { times = times; schedule = schedule; user = user; command = command })
 
--- behind the times stands the command, which may be empty and may not begin with a star
+-- after the times stands the command, which may be empty and may not begin with a star
 abbrev pub commanded : Timing → List ℕ → List ℕ → Line
 commanded times schedule rest = if begins_with 42 rest then refused faults.Command else with_command times schedule None rest
 
@@ -204,7 +204,7 @@ abbrev pub are_patterns : Dialect → Bool
 are_patterns dialects.Patterns = true
 are_patterns other = false
 
--- a line of a file of patterns: its text without the spaces behind it, where any is left
+-- a line of a file of patterns: its text without the spaces after it, where any is left
 abbrev pub entry_of_pattern : List ℕ → Line
 entry_of_pattern text = if length (trimmed text) == 0 then blank else pattern (trimmed text)
 

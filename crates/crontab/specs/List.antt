@@ -9,7 +9,7 @@ use Rattle.crontab.specs.Field.{part_of, smaller}
 
 -- ---- the parts
 
--- a part that was read, and those behind it: they count where a comma follows at once, and else the field ends. The byte 255 may not
+-- a part that was read, and those after it: they count where a comma directly follows, and else the field ends. The byte 255 may not
 -- follow, since cron takes it for the end of the file
 abbrev pub joined : Option (Part × List ℕ) → Option (List Part) → Option (List Part)
 joined None more = None
@@ -26,8 +26,8 @@ parts_of_pieces place (piece ∷ pieces) = joined (part_of place piece) (parts_o
 abbrev pub parts_of : Place → List ℕ → Option (List Part)
 parts_of place field = parts_of_pieces place (slice_split (λ b. b == 44) field)
 
--- a part at the begin of a list: it is refused where it is none, or the byte 255 follows it; else it is taken, and the refused part of those
--- behind it counts where a comma follows at once
+-- a part at the begin of a list: it is refused where it is none, or the byte 255 follows it; else it is taken, and the refused part of
+-- those after it counts where a comma directly follows
 abbrev pub first_refused : ℕ → Option (Part × List ℕ) → Option (ℕ × ℕ) → Option (ℕ × ℕ)
 first_refused long None more = Some (0, long)
 first_refused long (Some read) more =
@@ -70,7 +70,7 @@ range_text part =
     if part.first == part.last && part.step == 1 then decimal part.first
     else decimal part.first ++ (45 ∷ (decimal part.last ++ step_text part.step))
 
--- one more part behind those of a text; a star that does not stand first is the range that it means
+-- one more part after those of a text; a star that does not stand first is the range that it means
 abbrev pub added : List ℕ → Part → List ℕ
 added text part =
     if names_nothing part then text
@@ -80,7 +80,7 @@ added text part =
 abbrev pub first_text : Part → List ℕ
 first_text part = if part.is_star then 42 ∷ step_text part.step else added [] part
 
--- the text of a field, which is empty where it names nothing; behind a star without a step nothing is added
+-- the text of a field, which is empty where it names nothing; after a star without a step nothing is added
 abbrev pub text_of : List Part → List ℕ
 text_of [] = []
 text_of (part ∷ parts) = if part.is_star && part.step == 1 then codes "*" else fold added (first_text part) parts

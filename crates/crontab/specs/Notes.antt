@@ -37,7 +37,7 @@ note_name notes.Seconds = codes "seconds"
 
 -- ---- signs in a field: of a piece between its commas, or of a word of letters and digits
 
--- cron passes over bytes behind this part
+-- cron passes over bytes after this part
 abbrev pub is_followed : Option (Part × List ℕ) → Bool
 is_followed None = false
 is_followed (Some read) = nat_lt 0 (length read.1)
@@ -54,11 +54,11 @@ is_named word = is_some (name_of names.Months word) || is_some (name_of names.We
 abbrev pub reads : List ℕ → List ℕ → Bool
 reads letters word = bytes_eq (map to_ascii_lowercase word) letters
 
--- digits, one at least, and behind them these letters
+-- digits, one at least, and after them these letters
 abbrev pub is_numbered : List ℕ → List ℕ → Bool
 is_numbered letters word = nat_lt 0 (prefix_len is_digit word) && reads letters (drop (prefix_len is_digit word) word)
 
--- a weekday's name, and behind it an L
+-- a weekday's name, and after it an L
 abbrev pub is_named_last : List ℕ → Bool
 is_named_last word = reads (codes "l") (drop 3 word) && is_some (name_of names.Weekdays (take 3 word))
 
@@ -86,7 +86,7 @@ any_run sign place kind text = list_any (passes sign place) (slice_split (λ b. 
 
 -- ---- what cron takes of a field, and leaves out of it
 
--- cron passes over bytes of the field behind a part, which are no comma
+-- cron passes over bytes of the field after a part, which are no comma
 abbrev pub has_passed_over : Place → List ℕ → Bool
 has_passed_over place field = any_run signs.Followed place (kinds.But 44) field
 
@@ -223,7 +223,7 @@ is_refusal_noted note fault text w = is_refused_field_noted note fault (field_at
 
 -- ---- the line
 
--- a line has a note, of which the fault is told that cron refuses it for, if it does
+-- a line has a note, given the fault for which cron refuses it, if it does
 abbrev pub is_text_noted : Note → Option Fault → List ℕ → Five → Bool
 is_text_noted note None text w = is_job_noted note text w
 is_text_noted note (Some fault) text w = is_refusal_noted note fault text w

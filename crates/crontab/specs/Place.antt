@@ -1,5 +1,5 @@
--- Where in its line a fault lies. A place is that of two texts that both reach to the line's end: it begins where the first begins, and ends
--- where the second does. Source: this repository's page on the lines of a crontab.
+-- Where in its line a fault lies. A place is that of two texts that both reach to the line's end: it begins where the first begins, and
+-- ends where the second does. Source: this repository's page on the lines of a crontab.
 use Rattle.std.specs.Prelude.{◌≡◌, ℕ, Bool, ◌-◌, List, [], length, drop, Option, Some, None, unwrap_or, ⊤, if◌then◌else◌}
 use Rattle.crontab.specs.declared.bytes.Kind.TheVariants as kinds
 use Rattle.crontab.specs.declared.line.Entry.{Entry}
@@ -11,11 +11,11 @@ use Rattle.crontab.specs.Bytes.{front, behind, begins_with, rest_of}
 use Rattle.crontab.specs.Line.{next, minute_place, hour_place, day_place, month_place, weekday_place, Line, refused}
 use Rattle.crontab.specs.List.{refused_in}
 
--- what stands behind the times: `@` and a word, or five words
+-- what follows the times: `@` and a word, or five words
 abbrev pub behind_times : List ℕ → List ℕ
 behind_times text = if begins_with 64 text then next text else next (next (next (next (next text))))
 
--- the command, behind the times: in a crontab of the system a user and one blank stand before it
+-- the command, after the times: in a crontab of the system a user and one blank stand before it
 abbrev pub command_of : Bool → List ℕ → List ℕ
 command_of system rest = if system then rest_of (behind kinds.Word rest) else rest
 
@@ -23,7 +23,7 @@ command_of system rest = if system then rest_of (behind kinds.Word rest) else re
 abbrev pub place_in : Place → List ℕ → ℕ × ℕ
 place_in place field = unwrap_or (refused_in place field) (0, length field)
 
--- the text from the refused part of its first word on, and the text behind that part
+-- the text from the refused part of its first word on, and the text after that part
 abbrev pub from_refused : Place → List ℕ → List ℕ
 from_refused place text = drop (place_in place (front kinds.Word text)).0 text
 
@@ -43,7 +43,7 @@ from_fault system text faults.User = behind_times text
 from_fault system text faults.Command = command_of system (behind_times text)
 from_fault system text faults.LongCommand = command_of system (behind_times text)
 
--- the text behind its last byte: behind one byte, behind that part, behind the word, or none
+-- the text after its last byte: after one byte, that part, the word, or none
 abbrev pub behind_fault : Bool → List ℕ → Fault → List ℕ
 behind_fault system text faults.Nul = rest_of (behind (kinds.But 0) text)
 behind_fault system text faults.Minutes = behind_refused minute_place text
@@ -60,7 +60,7 @@ behind_fault system text faults.LongCommand = []
 abbrev pub IsBetween : List ℕ → List ℕ → List ℕ → ℕ → ℕ → Type 0
 IsBetween line from past start end = (start ≡ length line - length from) × (end ≡ length line - length past)
 
--- the place of a fault of a line, whose text stands behind its blanks
+-- the place of a fault of a line, whose text stands after its blanks
 abbrev pub IsPlaceOf : Bool → List ℕ → List ℕ → Fault → ℕ → ℕ → Type 0
 IsPlaceOf system line text fault start end = IsBetween line (from_fault system text fault) (behind_fault system text fault) start end
 

@@ -13,17 +13,17 @@ setting_length = 998
 abbrev pub has : ℕ → List ℕ → Bool
 has c text = nat_lt 0 (length (behind (kinds.But c) text))
 
--- what stands behind a name in quotes, of which the first is taken off: the other quote ends it, and it has no `=`
+-- what follows a name in quotes, of which the first is taken off: the other quote ends it, and it has no `=`
 abbrev pub behind_quoted : ℕ → List ℕ → Option (List ℕ)
 behind_quoted quote text =
     if has quote text && not (has 61 (front (kinds.But quote) text)) then Some (rest_of (behind (kinds.But quote) text)) else None
 
--- what stands behind the name: a name without quotes ends before a space or `=`, and may be empty
+-- what follows the name: a name without quotes ends before a space or `=`, and may be empty
 abbrev pub behind_name : List ℕ → Option (List ℕ)
 behind_name [] = None
 behind_name (c ∷ cs) = if is_quote c then behind_quoted c cs else Some (behind kinds.Name (c ∷ cs))
 
--- a value: in quotes with nothing but spaces behind them, or any text that is not empty
+-- a value: in quotes with nothing but spaces after them, or any text that is not empty
 abbrev pub is_value : List ℕ → Bool
 is_value [] = false
 is_value (c ∷ cs) =
@@ -51,7 +51,7 @@ sets_zone text =
 
 -- ---- what a shell would expand, or leave out
 
--- what stands behind the name, `=` and the spaces round it
+-- what follows the name, `=` and the spaces round it
 abbrev pub value_behind : Option (List ℕ) → List ℕ
 value_behind None = []
 value_behind (Some text) = behind kinds.Space (rest_of (behind kinds.Space text))
@@ -71,11 +71,11 @@ unquoted text = if is_quoted text then rest_of text else text
 abbrev pub begins_home : List ℕ → Bool
 begins_home text = begins_with 126 text && begins_with 47 (rest_of text)
 
--- `~/` stands at the head, or behind a colon
+-- `~/` stands at the head, or after a colon
 abbrev pub has_home : List ℕ → Bool
 has_home text = list_any begins_home (slice_split (λ b. b == 58) text)
 
--- `#` stands behind a blank
+-- `#` stands after a blank
 abbrev pub has_comment : List ℕ → Bool
 has_comment text = list_any (begins_with 35) (slice_split is_blank (behind kinds.Word text))
 

@@ -1,20 +1,20 @@
-//! The bytes of a line, and the cuts that cron makes in it.
+//! The bytes of a line, and how cron cuts it.
 ghost use Rattle.std.specs.Prelude.{◌≡◌, ◌≤◌, ◌+◌, length};
 ghost use Rattle.std.specs.List.{prefix_len, suffix_len};
 ghost use Rattle.crontab.specs.Bytes.{is_blank, is_space, is_quote, is_digit, is_alphanumeric, is_of, front, behind, begins_with, rest_of, until, trimmed};
 
-/// A kind of bytes, to cut a text at its end.
+/// A kind of byte. A text is cut where a run of one kind ends.
 #[derive(Clone, Copy)]
 pub enum Kind {
-    /// A space or a tab: what stands between fields.
+    /// A space or a tab: what separates fields.
     Blank,
-    /// What is no blank.
+    /// Anything but a blank.
     Word,
     /// What C calls a space.
     Space,
     /// A letter or a digit of ASCII.
     Alphanumeric,
-    /// What a name without quotes is made of: neither a space nor `=`.
+    /// A byte of a name without quotes: anything but a space and `=`.
     Name,
     /// Every byte but this one.
     But(u8),
@@ -73,7 +73,7 @@ fn front_len(text: &[u8], kind: Kind) -> usize
     text.iter().take_while(|byte| is_of(kind, **byte)).count()
 }
 
-/// The bytes of a kind that a text begins with, and what stands behind them.
+/// The bytes of a kind that a text begins with, and what follows them.
 pub fn cut(text: &[u8], kind: Kind) -> (&[u8], &[u8])
     ensures front { result.0.now ≡ front kind text.now }
     ensures behind { result.1.now ≡ behind kind text.now }
@@ -102,8 +102,8 @@ pub fn rest_of(text: &[u8]) -> &[u8]
     }
 }
 
-/// The text up to what stands behind in it: without as many of its last bytes as `behind` has, and empty where `behind`
-/// is the longer.
+/// The text up to its end `behind`: without as many of its last bytes as `behind` has, and empty where `behind` is
+/// longer.
 pub fn until<'l>(text: &'l [u8], behind: &[u8]) -> &'l [u8]
     ensures { result.now ≡ until text.now behind.now }
 {

@@ -8,7 +8,7 @@ use std::alloc::Global;
 use std::io;
 use std::io::{BufRead, ErrorKind};
 
-/// What takes the entries of a file, in the order of its lines.
+/// A consumer of a file's entries, in the order of its lines.
 pub trait Entries {
     ghost use Rattle.std.specs.Prelude.{OnOk};
     ghost use Rattle.crontab.specs.Checked.{LineRead, line_seen};
@@ -16,9 +16,9 @@ pub trait Entries {
     /// What taking the entry of a line leaves.
     ghost takes: { Self → LineRead → Self → Type 0 };
 
-    /// Takes the entry of the next line, which is given without its line feed, and whether the line ends with one.
+    /// Takes the entry of the next line. The line comes without its line feed; `is_fed` says whether it had one.
     ///
-    /// The error is that of what the entries are written to, or says that memory is lacking.
+    /// The error is that of the writer underneath, or lack of memory.
     fn take(&mut self, line: &[u8], entry: Entry<'_>, is_fed: bool) -> io::Result<()>
         ensures { OnOk result (takes self.old (line_seen line.now entry.entry is_fed) self.new) };
 }
@@ -37,10 +37,10 @@ fn take_line<S: Entries>(
     sink.take(text, entry, is_fed)
 }
 
-/// Gives the entry of each line of a file to what takes them, in order, in a dialect. It holds one line at a time.
+/// Reads a file in a dialect, and hands the entry of each line to a consumer, in order. It holds one line at a time.
 ///
-/// The error is that of the reader or of what takes the entries, or says that memory is lacking. The entries of the
-/// lines before are taken then.
+/// The error is that of the reader or of the consumer, or lack of memory. The entries of the lines before it have
+/// then been taken.
 pub fn check<R: BufRead, S: Entries>(
     alloc: Global,
     dialect: Dialect,

@@ -1,4 +1,4 @@
-//! The content of a line: what it is, what croner's parser makes of its times, and its notes.
+//! The content of a line: what the line is, what croner's parser makes of its times, and its notes.
 ghost use Rattle.std.specs.Prelude.{◌≡◌, length, IfOk, IsUtf8, Result};
 ghost use Rattle.croner_pattern.specs.Meaning.{Meaning};
 ghost use Rattle.croner.specs.parser.Gives.{Fails};
@@ -20,12 +20,12 @@ use std::alloc::{AllocError, Global};
 /// What croner's parser makes of the times of a line.
 #[derive(Drop)]
 pub enum Outcome {
-    /// The line has no text for the parser: it is neither a job nor a pattern, or it is a job that runs as the machine
-    /// starts, or at no time.
+    /// There is no text to parse: the line is neither a job nor a pattern, or its job runs when the machine starts, or
+    /// never.
     NoText,
-    /// The job of the text.
+    /// The job that the parser read.
     Job(Cron),
-    /// The parser refuses the text that a job's times were made into. The error is never `OutOfMemory`.
+    /// The parser refuses the text made from a job's times. The error is never `OutOfMemory`.
     TimesRefused(CronError),
     /// The parser refuses a pattern, for this fault. Its place is counted from the first byte of the pattern.
     PatternRefused(PatternFault),
@@ -33,18 +33,18 @@ pub enum Outcome {
     NotUtf8,
 }
 
-/// The content of a line, found by one reading of it.
+/// The content of a line, found by reading it once.
 pub struct Content<'l> {
     /// What the line is.
     pub entry: Entry<'l>,
     /// What croner's parser makes of its times.
     pub outcome: Outcome,
-    /// Where cron and that parser read it otherwise, in the order of [`Note::ALL`]. Only a job of a crontab and a line
-    /// that cron refuses have notes.
+    /// Where cron and that parser read the line differently, in the order of [`Note::ALL`]. Only a job of a crontab
+    /// and a line that cron refuses have notes.
     pub notes: Vec<Note>,
 }
 
-// By hand, so that a function that lets one go calls this one: its proof doesn't go through the fields at each exit.
+// By hand, so that a function that drops one calls this one: its proof doesn't go through the fields at each exit.
 impl Drop for Content<'_> {
     fn drop(self) {
         let Content {
@@ -55,9 +55,9 @@ impl Drop for Content<'_> {
     }
 }
 
-/// The content of a line in a dialect. It is given without its line feed; the parser is that of a file of patterns.
+/// The content of a line in a dialect. The line comes without its line feed; `parser` is the one for a file of patterns.
 ///
-/// The place of a refused line's fault lies in the line. The only error is want of memory.
+/// The place of a refused line's fault is within the line. The only error is lack of memory.
 pub fn content_of(
     alloc: Global,
     dialect: Dialect,
@@ -80,9 +80,9 @@ pub fn content_of(
     })
 }
 
-/// What croner's parser makes of the times of a line with this entry. The parser is that of a file of patterns.
+/// What croner's parser makes of the times of a line with this entry. `parser` is the one for a file of patterns.
 ///
-/// The only error is want of memory.
+/// The only error is lack of memory.
 pub fn outcome_of(
     alloc: Global,
     parser: CronParser,
@@ -109,7 +109,7 @@ fn outcome_of_times(alloc: Global, times: &Times) -> Result<Outcome, AllocError>
     }
 }
 
-// That of the text that a job's times were made into.
+// That of the text made from a job's times.
 fn outcome_of_text(alloc: Global, text: &str, both_days: bool) -> Result<Outcome, AllocError>
     ensures { IfOk result (IsOutcomeOfText (outcome (crontab_settings both_days) text.now)) }
 {
@@ -122,7 +122,7 @@ fn outcome_of_text(alloc: Global, text: &str, both_days: bool) -> Result<Outcome
     }
 }
 
-// The refusal of a text, but for want of memory.
+// The refusal of a text, but for lack of memory.
 fn refusal_of(error: CronError) -> Result<CronError, AllocError>
     ensures { IfOk result (λ e. (read : Result Meaning Refusal) → Fails error read → IsRefusalOf e read) }
 {
@@ -159,9 +159,9 @@ fn outcome_of_utf8(alloc: Global, parser: CronParser, text: &str) -> Result<Outc
     }
 }
 
-/// The notes of a line with this entry, in the order of [`Note::ALL`]. The line is given without its line feed.
+/// The notes of a line with this entry, in the order of [`Note::ALL`]. The line comes without its line feed.
 ///
-/// The only error is want of memory.
+/// The only error is lack of memory.
 pub fn notes_in(alloc: Global, entry: &Entry<'_>, line: &[u8]) -> Result<Vec<Note>, AllocError>
     ensures { IfOk result (λ found. found.items ≡ notes_in (entry_seen entry.now) line.now) }
 {

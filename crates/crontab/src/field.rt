@@ -8,7 +8,7 @@ ghost use Rattle.crontab.specs.Field.{most, with_digit, number_of, months, weekd
 
 use crate::bytes::{Kind, begins_with, cut, is_digit, rest_of};
 
-/// The greatest number of 63 bits, at which reading a number stops.
+/// The greatest number of 63 bits: a number that is read grows no further.
 const MOST: u64 = 9_223_372_036_854_775_807;
 
 /// How many numbers 32 bits hold, and 31.
@@ -41,16 +41,16 @@ pub struct Place {
     pub names: Names,
 }
 
-/// A part of a field: the values from the first to the last, step by step. One that runs down names nothing.
+/// A part of a field: the values from the first to the last, step by step. One whose range runs down names nothing.
 #[derive(Clone, Copy)]
 pub struct Part {
     /// It was written as a star.
     pub is_star: bool,
     /// The first value, within its field's.
     pub first: u64,
-    /// The greatest that it may have, within its field's.
+    /// The greatest value that it may have, within its field's.
     pub last: u64,
-    /// How far its values are apart: 1 to 2^31 - 1.
+    /// How far apart its values are: 1 to 2^31 - 1.
     pub step: u64,
 }
 
@@ -167,7 +167,7 @@ fn value_of(names: Names, word: &[u8]) -> Option<u64>
     }
 }
 
-// The value that a text begins with, and what stands behind it.
+// The value that a text begins with, and what follows it.
 fn value_at(names: Names, text: &[u8]) -> Option<(u64, &[u8])>
     ensures { option_map (λ v. (v.0, v.1.now)) result ≡ value_at names text.now }
 {
@@ -206,7 +206,7 @@ fn ranged(place: Place, part: Part, rest: &[u8]) -> Option<(Part, &[u8])>
     }
 }
 
-// A star or a range, of step 1 so far, and the step behind it.
+// A star or a range, so far of step 1, with the step after it.
 fn stepped(place: Place, is_star: bool, first: u64, last: u64, rest: &[u8]) -> Option<(Part, &[u8])>
     ensures { option_map (λ p. (p.0, p.1.now)) result ≡ stepped place is_star first last rest.now }
 {
@@ -262,7 +262,7 @@ fn from_value(place: Place, first: u64, rest: &[u8]) -> Option<(Part, &[u8])>
     )
 }
 
-/// The part that a text begins with, and what stands behind it, if there is one whose bounds lie within the field's.
+/// The part that a text begins with, and what follows it; `None` unless the part's bounds lie within the field's.
 pub fn part_of(place: Place, text: &[u8]) -> Option<(Part, &[u8])>
     ensures { option_map (λ p. (p.0, p.1.now)) result ≡ part_of place text.now }
 {

@@ -1,6 +1,6 @@
-//! The lines of a crontab, as Debian's cron(8) reads them: what each is, when its job runs, where the fault of a
-//! refused one lies, and where cron and croner's parser read the same five fields otherwise. No file is opened here,
-//! and no clock is read.
+//! The lines of a crontab, as Debian's cron(8) reads them: what each is, when its job runs, and where the fault
+//! of a refused line is. Also where cron and croner's parser read the same five fields differently. No file is
+//! opened here, and no clock is read.
 #![tactic(auto)]
 
 pub mod bytes;

@@ -18,7 +18,7 @@ use std::alloc::{AllocError, Global};
 /// The longest command that cron takes.
 const COMMAND_LENGTH: usize = 998;
 
-/// The byte that cron takes for the end of the file, where it stands first behind the fields.
+/// The byte that cron takes for the end of the file, if it comes first after the fields.
 const END_OF_FILE: u8 = 255;
 
 /// Minutes: 0 to 59.
@@ -61,9 +61,9 @@ pub const WEEKDAYS: Place = Place {
 pub enum Dialect {
     /// As a crontab of a user.
     User,
-    /// As a crontab of the system, where a user stands before each command.
+    /// As a crontab of the system, where a user's name comes before each command.
     System,
-    /// Each line is a pattern for croner's parser, and no command.
+    /// Each line is a pattern for croner's parser, without a command.
     Patterns,
 }
 
@@ -90,21 +90,21 @@ impl Dialect {
 /// Why cron refuses a line, or this checker does.
 #[derive(Clone, Copy, Drop)]
 pub enum Fault {
-    /// A byte 0: cron ends what it reads there, and takes what follows for a further line.
+    /// A byte 0: cron ends the text there, and takes what follows for another line.
     Nul,
-    /// The minutes are missing, or no list that cron takes.
+    /// The minutes are missing, or are no list that cron accepts.
     Minutes,
-    /// The same of the hours.
+    /// The same for the hours.
     Hours,
-    /// The same of the days of the month.
+    /// The same for the days of the month.
     Days,
-    /// The same of the months.
+    /// The same for the months.
     Months,
-    /// The same of the weekdays.
+    /// The same for the weekdays.
     Weekdays,
-    /// A word behind `@` that is no nickname, or not in small letters.
+    /// A word after `@` that is no nickname, or not in lower case.
     Nickname,
-    /// No user's name, or no blank behind it.
+    /// No user's name, or no blank after it.
     User,
     /// A command that begins with `*`.
     Command,
@@ -115,15 +115,15 @@ pub enum Fault {
 /// When a job runs.
 #[derive(Drop)]
 pub enum Times {
-    /// As the machine starts.
+    /// When the machine starts.
     Reboot,
     /// At no time, since a field names nothing.
     Never,
-    /// As croner's parser reads a text of five fields.
+    /// At the times of a text of five fields, as croner's parser reads it.
     Named {
-        /// That text.
+        /// The text.
         text: String,
-        /// Both day fields must match, not either.
+        /// Whether both day fields must match, rather than either.
         both_days: bool,
     },
 }
@@ -134,13 +134,13 @@ pub struct Job<'l> {
     pub times: Times,
     /// The times as they are written: from the first word to the end of the fifth, or `@` and its word.
     pub schedule: &'l [u8],
-    /// The name of its user, where the file names one.
+    /// The name of its user, if the file names one.
     pub user: Option<&'l [u8]>,
     /// Its command, as it is written.
     pub command: &'l [u8],
 }
 
-// By hand, so that a function that lets one go calls this one: its proof doesn't go through the fields at each exit.
+// By hand, so that a function that drops one calls this one: its proof doesn't go through the fields at each exit.
 impl Drop for Job<'_> {
     fn drop(self) {
         let Job {
@@ -157,16 +157,16 @@ impl Drop for Job<'_> {
 pub enum Entry<'l> {
     /// It has nothing but blanks.
     Blank,
-    /// It begins with `#`, behind its blanks.
+    /// Its first byte after blanks is `#`.
     Comment,
     /// It sets a variable.
     Setting {
-        /// The variable is `CRON_TZ` or `TZ`.
+        /// Whether the variable is `CRON_TZ` or `TZ`.
         is_zone: bool,
     },
     /// A job.
     Job(Job<'l>),
-    /// A pattern for croner's parser, without the blanks in front of it and the spaces behind it.
+    /// A pattern for croner's parser, without the blanks before it and the spaces after it.
     Pattern(&'l [u8]),
     /// It is refused.
     Refused {
@@ -174,12 +174,12 @@ pub enum Entry<'l> {
         fault: Fault,
         /// The byte of the line at which the fault begins, from 0.
         start: usize,
-        /// The byte behind its last one.
+        /// The byte after its last one.
         end: usize,
     },
 }
 
-/// Five words, and what stands behind them. A word that is missing is empty.
+/// Five words, and what follows them. A missing word is empty.
 #[derive(Clone, Copy)]
 pub struct Words<'l> {
     /// The first.
@@ -192,11 +192,11 @@ pub struct Words<'l> {
     pub months: &'l [u8],
     /// The fifth.
     pub weekdays: &'l [u8],
-    /// What stands behind the fifth and the blanks after it.
+    /// What follows the fifth word and the blanks after it.
     pub rest: &'l [u8],
 }
 
-/// The first word, and what stands behind it and the blanks after it.
+/// The first word, and what follows it and the blanks after it.
 pub fn word(text: &[u8]) -> (&[u8], &[u8])
     ensures word { result.0.now ≡ front kinds.Word text.now }
     ensures rest { result.1.now ≡ next text.now }
@@ -206,7 +206,7 @@ pub fn word(text: &[u8]) -> (&[u8], &[u8])
     (word, rest)
 }
 
-/// The five words that a text begins with, and what stands behind them.
+/// The five words that a text begins with, and what follows them.
 pub fn words_of(text: &[u8]) -> Words<'_>
     ensures { words_seen result ≡ words_of text.now }
 {
@@ -225,7 +225,7 @@ pub fn words_of(text: &[u8]) -> Words<'_>
     }
 }
 
-// What stands at once behind the fifth word.
+// What directly follows the fifth word.
 fn behind_fields(text: &[u8]) -> &[u8]
     ensures { result.now ≡ behind_fields text.now }
 {
@@ -424,7 +424,7 @@ fn with_command<'l>(
     })
 }
 
-// What stands behind the times in a crontab of a user.
+// What follows the times in a crontab of a user.
 fn commanded<'l>(times: Times, schedule: &'l [u8], rest: &'l [u8]) -> Result<Job<'l>, Fault>
     ensures { job_read result ≡ commanded (times_seen times) schedule.now rest.now }
 {
@@ -434,7 +434,7 @@ fn commanded<'l>(times: Times, schedule: &'l [u8], rest: &'l [u8]) -> Result<Job
     with_command(times, schedule, None, rest)
 }
 
-// What stands behind the times in a crontab of the system.
+// What follows the times in a crontab of the system.
 fn commanded_by<'l>(times: Times, schedule: &'l [u8], rest: &'l [u8]) -> Result<Job<'l>, Fault>
     ensures { job_read result ≡ commanded_by (times_seen times) schedule.now rest.now }
 {
@@ -497,7 +497,7 @@ fn job_of(alloc: Global, system: bool, text: &[u8]) -> Result<Result<Job<'_>, Fa
     }
 }
 
-// A refused line, which is given with its text from the first byte on that is no blank.
+// A refused line; `text` is that of the line from its first byte that is no blank.
 fn refused<'l>(line: &[u8], text: &[u8], system: bool, fault: Fault) -> Entry<'l>
     ensures seen { entry_seen result ≡ Spec.refused fault }
     ensures placed { LiesIn (length line.now) result }
@@ -507,7 +507,7 @@ fn refused<'l>(line: &[u8], text: &[u8], system: bool, fault: Fault) -> Entry<'l
     Entry::Refused { fault, start, end }
 }
 
-// A line that begins with neither a blank nor a comment's sign.
+// The entry of a line that begins with neither a blank nor `#`.
 fn entry_of_text<'l>(
     alloc: Global,
     system: bool,
@@ -546,9 +546,9 @@ fn entry_of_pattern(text: &[u8]) -> Entry<'_>
     }
 }
 
-/// What a line is in a dialect. It is given without its line feed.
+/// What a line is in a dialect. The line comes without its line feed.
 ///
-/// A refused line names the place of its fault, which lies in the line. The only error is want of memory.
+/// A refused line has the place of its fault, which is within the line. The only error is lack of memory.
 pub fn entry_of(alloc: Global, dialect: Dialect, line: &[u8]) -> Result<Entry<'_>, AllocError>
     ensures seen { IfOk result (λ e. entry_seen e ≡ entry_of dialect line.now) }
     ensures placed { IfOk result (LiesIn (length line.now)) }

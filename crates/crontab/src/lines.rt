@@ -5,9 +5,9 @@ ghost use Rattle.crontab.specs.Lines.{ReadsLine, unfed, is_fed};
 use std::io;
 use std::io::BufRead;
 
-/// Reads the next line, with its line feed, in place of what `line` held. It is empty where the file ends.
+/// Reads the next line, with its line feed, into `line`, in place of what it held. At the end of the file `line` is empty.
 ///
-/// The error is that of the reader, or says that memory is lacking. What `line` holds then is not said.
+/// The error is that of the reader, or lack of memory; what `line` then holds is unspecified.
 pub fn read_line<R: BufRead>(reader: &mut R, line: &mut Vec<u8>) -> io::Result<()>
     ensures { OnOk result (ReadsLine (R.remaining reader.old) (R.remaining reader.new) line.new.items) }
 {

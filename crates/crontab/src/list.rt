@@ -1,4 +1,4 @@
-//! The list of parts of a field, and the text that says the same to croner's parser.
+//! The list of parts of a field, and the text that means the same to croner's parser.
 ghost use Rattle.std.specs.Prelude.{◌≡◌, ◌≤◌, length, fold, option_map, string_bytes, IfOk, IfSome, OnOk};
 ghost use Rattle.crontab.specs.List.{parts_of, refused_in, names_nothing, is_uneven, step_text, range_text, added, first_text, text_of, field_text};
 
@@ -9,13 +9,13 @@ use std::alloc::{AllocError, Global};
 /// The byte that cron takes for the end of the file, where it follows a part.
 const END_OF_FILE: u8 = 255;
 
-/// A step as far as it is told: from here on it is past the values of every field.
+/// The greatest step that is written: from here on a step is larger than any field's values.
 const MOST_STEP: u64 = 9_999;
 
-/// The parts of a field, in order, or nothing where cron refuses it. Behind the first part that isn't followed by a
-/// comma at once nothing is read.
+/// The parts of a field, in order, or `None` where cron refuses it. Reading stops after the first part that no
+/// comma directly follows.
 ///
-/// The only error is want of memory.
+/// The only error is lack of memory.
 pub fn parts_of(alloc: Global, place: Place, field: &[u8]) -> Result<Option<Vec<Part>>, AllocError>
     ensures { IfOk result (λ found. option_map (λ parts. parts.items) found ≡ parts_of place field.now) }
 {
@@ -35,8 +35,8 @@ pub fn parts_of(alloc: Global, place: Place, field: &[u8]) -> Result<Option<Vec<
     Ok(Some(parts))
 }
 
-/// The place in a field of the part for which cron refuses it: the byte at which it begins, from 0, and the byte behind its last
-/// one. Nothing where cron takes the field.
+/// The place of the part for which cron refuses a field: the byte of the field at which it begins, from 0, and the byte after
+/// its last one. `None` where cron accepts the field.
 pub(crate) fn refused_in(place: Place, field: &[u8]) -> Option<(usize, usize)>
     ensures place { result ≡ refused_in place field.now }
     ensures order { IfSome result (λ found. found.0 ≤ found.1) }
@@ -66,7 +66,7 @@ pub fn names_nothing(part: &Part) -> bool
     part.last < part.first
 }
 
-/// Whether a field is one part, which is a star with a step below a number that doesn't divide it.
+/// Whether a field is a single star whose step is below `turn` and doesn't divide it.
 pub fn is_uneven(turn: u64, parts: &[Part]) -> bool
     ensures { result ≡ is_uneven turn parts.now }
 {
@@ -76,7 +76,7 @@ pub fn is_uneven(turn: u64, parts: &[Part]) -> bool
     }
 }
 
-// The step of a part behind its range.
+// The step of a part, as it is written after its range.
 fn step_text(alloc: Global, step: u64) -> Result<String, AllocError>
     ensures { IfOk result (λ text. string_bytes text ≡ step_text step) }
 {
@@ -143,10 +143,10 @@ fn text_of(alloc: Global, parts: &[Part]) -> Result<String, AllocError>
     }
 }
 
-/// The text of a field that says the same to croner's parser, or nothing where cron refuses the field. It is empty
-/// where the field names no value.
+/// The text that means to croner's parser what the field means to cron, or `None` where cron refuses the field. It
+/// is empty where the field names no value.
 ///
-/// The only error is want of memory.
+/// The only error is lack of memory.
 pub fn field_text(alloc: Global, place: Place, field: &[u8]) -> Result<Option<String>, AllocError>
     ensures { IfOk result (λ text. option_map string_bytes text ≡ field_text place field.now) }
 {

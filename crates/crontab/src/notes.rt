@@ -1,5 +1,5 @@
-//! The notes of a line: where cron reads it otherwise than croner's parser reads the same five fields, or refuses what
-//! that parser takes.
+//! The notes of a line: where cron reads it differently from croner's parser, given the same five fields, or refuses
+//! what that parser accepts.
 ghost use Rattle.std.specs.Prelude.{◌≡◌, ◌≤◌, ◌||◌, not, length, option_map, take, filter, IfOk};
 ghost use Rattle.std.specs.Option.{is_some, is_none};
 ghost use Rattle.std.specs.List.{list_all, list_any, prefix_len};
@@ -32,14 +32,14 @@ const DAYS_OF_WEEK: u64 = 7;
 /// How many letters the name of a weekday has.
 const NAME_LENGTH: usize = 3;
 
-/// What is told of a line beside its meaning or its refusal.
+/// What is said of a line besides its meaning or its refusal.
 #[derive(Clone, Copy, Drop)]
 pub enum Note {
     /// A day field begins with `*`, and neither day field is `*` alone: both must match.
     StarDay,
-    /// A `*` stands beside other parts.
+    /// A `*` is one of several parts.
     StarAmongParts,
-    /// A step of days, months or weekdays that is shorter from the last value to the next first one.
+    /// A step of days, months or weekdays that is shorter from the last value to the first of the next round.
     UnevenStep,
     /// A part between commas is empty.
     EmptyPart,
@@ -47,14 +47,14 @@ pub enum Note {
     OtherName,
     /// `L`, `W`, `?` or `+` in a day field.
     Modifier,
-    /// A nickname that isn't in small letters.
+    /// A nickname that isn't in lower case.
     CapitalNickname,
-    /// A field of seconds stands before five that cron takes.
+    /// A field of seconds comes before five that cron accepts.
     Seconds,
 }
 
 impl Note {
-    /// All of them, in the order in which they are told.
+    /// All of them, in the order in which they are reported.
     pub const ALL: [Note; 8] = [
         Note::StarDay,
         Note::StarAmongParts,
@@ -83,10 +83,10 @@ impl Note {
     }
 }
 
-// What is looked for in a field: in each of its pieces between commas, or in each of its words of letters and digits.
+// What is looked for in each piece of a field, between commas, or in each of its words of letters and digits.
 #[derive(Clone, Copy)]
 enum Sign {
-    // A piece with bytes behind its part.
+    // A piece with bytes after its part.
     Followed,
     // A word that is a number of 2^32 or more.
     Large,
@@ -94,7 +94,7 @@ enum Sign {
     Empty,
     // A word that is a name of another field.
     OtherName,
-    // A piece of which a name is the step.
+    // A piece whose step is a name.
     NamedStep,
     // A word that is a modifier in a field of days.
     DayModifier,
@@ -134,7 +134,7 @@ fn digit_count(word: &[u8]) -> usize
     word.iter().take_while(|byte| is_digit(**byte)).count()
 }
 
-// Whether a word is digits, one at least, and behind them these letters.
+// Whether a word is digits, one at least, and after them these letters.
 fn is_numbered(word: &[u8], letters: &str) -> bool
     ensures { result ≡ is_numbered (lowered letters.now) word.now }
 {
@@ -201,15 +201,15 @@ fn any_run(sign: Sign, place: Place, kind: Kind, text: &[u8]) -> bool
 
 // ---- what cron takes of a field, and leaves out of it
 
-/// Whether cron passes over bytes of a field behind a part, which are no comma.
+/// Whether cron passes over bytes of a field after a part, which are no comma.
 pub fn has_passed_over(place: Place, field: &[u8]) -> bool
     ensures { result ≡ has_passed_over place field.now }
 {
     any_run(Sign::Followed, place, Kind::But(b','), field)
 }
 
-/// Whether a word of a field is a number of 2^32 or more, of which cron keeps what is left after division by 2^32, and no
-/// bytes of the field are passed over.
+/// Whether a word of a field is a number of 2^32 or more, which cron reduces modulo 2^32, and no bytes of the field are
+/// passed over.
 pub fn has_large_number(place: Place, field: &[u8]) -> bool
     ensures { result ≡ has_large_number place field.now }
 {
@@ -237,15 +237,15 @@ fn all_weekday_bytes(word: &[u8]) -> bool
     word.iter().all(|byte| is_weekday_byte(*byte))
 }
 
-/// Whether a word may be a field of weekdays: letters, digits and the signs of such a field alone, and of letters and digits
-/// only numbers, names of weekdays and modifiers.
+/// Whether a word may be a field of weekdays. It has only letters, digits and the signs of such a field, and its runs of
+/// letters and digits are numbers, names of weekdays or modifiers.
 pub fn looks_like_weekdays(word: &[u8]) -> bool
     ensures { result ≡ looks_like_weekdays word.now }
 {
     all_weekday_bytes(word) && !any_run(Sign::NoWeekday, WEEKDAYS, Kind::Alphanumeric, word)
 }
 
-/// Whether a word of a field is the name of a month or of a weekday, and none of this field.
+/// Whether a word of a field is the name of a month or of a weekday that this field doesn't have.
 pub fn has_other_name(place: Place, field: &[u8]) -> bool
     ensures { result ≡ has_other_name place field.now }
 {
@@ -378,7 +378,7 @@ fn is_fault_noted(note: Note, fault: Fault, place: Place, field: &[u8]) -> bool
 
 /// Whether cron takes a field.
 ///
-/// The only error is want of memory.
+/// The only error is lack of memory.
 pub fn takes(alloc: Global, place: Place, field: &[u8]) -> Result<bool, AllocError>
     ensures { IfOk result (λ b. b ≡ takes place field.now) }
 {
@@ -483,7 +483,7 @@ fn is_refusal_noted(
 
 // ---- the line
 
-// Whether a line has a note, by its bytes from the first that is no blank on, and by their words.
+// Whether a line has a note, by its bytes from the first that is no blank, and by their words.
 fn is_noted(
     alloc: Global,
     note: Note,
@@ -499,10 +499,10 @@ fn is_noted(
     }
 }
 
-/// The notes of a line of a crontab, in the order in which they are told. The line is a job, or one that cron refuses
-/// for this fault, and is given without its line feed.
+/// The notes of a line of a crontab, in the order in which they are reported. The line is a job, or cron refuses it
+/// for this fault; it comes without its line feed.
 ///
-/// The only error is want of memory.
+/// The only error is lack of memory.
 pub fn notes_of(alloc: Global, fault: Option<Fault>, line: &[u8]) -> Result<Vec<Note>, AllocError>
     ensures { IfOk result (λ found. found.items ≡ notes_of fault line.now) }
 {
@@ -511,7 +511,7 @@ pub fn notes_of(alloc: Global, fault: Option<Fault>, line: &[u8]) -> Result<Vec<
     Ok(found)
 }
 
-// Of some notes those that a line has, by its bytes from the first that is no blank on, and by their words.
+// Those of some notes that a line has, by its bytes from the first that is no blank, and by their words.
 fn those_noted(
     alloc: Global,
     fault: Option<Fault>,

@@ -21,8 +21,8 @@ fn parser(both_days: bool) -> CronParser
         .build()
 }
 
-/// The job of a text of five fields, with both day fields to match or either. The errors are those of
-/// [`CronParser::parse`](croner::parser::CronParser::parse).
+/// The job of a text of five fields, where a day has to match both day fields, or either. The errors
+/// are those of [`CronParser::parse`](croner::parser::CronParser::parse).
 pub fn job_of(alloc: Global, text: &str, both_days: bool) -> Result<Cron, CronError>
     ensures { Gives job_of result (outcome (crontab_settings both_days) text.now) }
 {

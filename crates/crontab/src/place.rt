@@ -14,11 +14,11 @@ use crate::list::refused_in;
 pub struct Span {
     /// The first one.
     pub start: usize,
-    /// The one behind the last.
+    /// The one after the last.
     pub end: usize,
 }
 
-// The bytes of a line from where `text` begins to where `behind` does; both reach to its end.
+// The bytes of a line from where `text` begins to where `behind` does; both reach to the line's end.
 fn between(line: &[u8], text: &[u8], behind: &[u8]) -> Span
     requires { length behind.now ≤ length text.now }
     ensures place { IsBetween line.now text.now behind.now result.start result.end }
@@ -66,7 +66,7 @@ fn place_in(place: Place, field: &[u8]) -> (usize, usize)
     }
 }
 
-// What stands behind the first word and the blanks after it.
+// What follows the first word and the blanks after it.
 fn next(text: &[u8]) -> &[u8]
     ensures { result.now ≡ next text.now }
 {
@@ -74,14 +74,14 @@ fn next(text: &[u8]) -> &[u8]
     rest
 }
 
-// What stands behind four words and the blanks after them.
+// What follows four words and the blanks after them.
 fn behind_four(text: &[u8]) -> &[u8]
     ensures { result.now ≡ next (next (next (next text.now))) }
 {
     next(next(next(next(text))))
 }
 
-// What stands behind the times.
+// What follows the times.
 fn behind_times(text: &[u8]) -> &[u8]
     ensures { result.now ≡ behind_times text.now }
 {
@@ -92,7 +92,7 @@ fn behind_times(text: &[u8]) -> &[u8]
     }
 }
 
-// The command, which reaches to the line's end: in a crontab of the system it stands behind a user and one blank.
+// The command, which reaches to the line's end. In a crontab of the system it comes after a user and one blank.
 fn command_at(line: &[u8], system: bool, rest: &[u8]) -> Span
     ensures place { IsBetween line.now (command_of system rest.now) [] result.start result.end }
     ensures order { result.start ≤ result.end }
@@ -115,10 +115,10 @@ fn nul_at(line: &[u8], text: &[u8]) -> Span
     between(line, from, rest_of(from))
 }
 
-/// The place of a fault in a line of a crontab of the system or of a user, which is given with its text from the first
-/// byte on that is no blank: the first part of a field's list that cron doesn't take, the word of a nickname or of a user,
-/// the command, or the byte 0. It is empty, at the line's end, where that word is missing. A field that cron takes, behind
-/// which the byte 255 stands, is the whole place.
+/// The place of a fault in a line of a crontab of the system or of a user; `text` is the line from its first byte that is
+/// no blank. The place is the first part of a field's list that cron doesn't accept, the word of a nickname or of a user,
+/// the command, or the byte 0. It is empty, at the line's end, where that word is missing. Where the fault is a byte 255
+/// after a field that cron accepts, the place is the whole field.
 pub fn place_of(line: &[u8], text: &[u8], system: bool, fault: Fault) -> Span
     ensures place { IsPlaceOf system line.now text.now fault result.start result.end }
     ensures order { result.start ≤ result.end }

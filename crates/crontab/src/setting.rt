@@ -61,7 +61,7 @@ pub fn has(text: &[u8], byte: u8) -> bool
     0 < behind.len()
 }
 
-// What stands behind a name in quotes, of which the first is taken off.
+// What follows a name in quotes, given without the first quote.
 fn behind_quoted(text: &[u8], quote: u8) -> Option<&[u8]>
     ensures { option_map (λ t. t.now) result ≡ behind_quoted quote text.now }
 {
@@ -73,7 +73,7 @@ fn behind_quoted(text: &[u8], quote: u8) -> Option<&[u8]>
     }
 }
 
-// What stands behind the name.
+// What follows the name.
 fn behind_name(text: &[u8]) -> Option<&[u8]>
     ensures { option_map (λ t. t.now) result ≡ behind_name text.now }
 {
@@ -120,7 +120,7 @@ fn is_assigned(behind: Option<&[u8]>) -> bool
     }
 }
 
-// What stands behind the name, `=` and the spaces round it.
+// What follows the name, `=` and the spaces around it.
 fn value_behind(behind: Option<&[u8]>) -> &[u8]
     ensures { result.now ≡ value_behind (option_map (λ t. t.now) behind.entry) }
 {
@@ -167,7 +167,7 @@ fn begins_home(text: &[u8]) -> bool
     begins_with(text, b'~') && begins_with(rest_of(text), b'/')
 }
 
-// Whether `~/` stands at the head of a text, or behind a colon.
+// Whether `~/` comes at the beginning of a text, or after a colon.
 fn has_home(text: &[u8]) -> bool
     ensures { result ≡ has_home text.now }
 {
@@ -183,7 +183,7 @@ fn any_hash(text: &[u8]) -> bool
         .any(|piece| begins_with(piece, b'#'))
 }
 
-// Whether `#` stands behind a blank of a text.
+// Whether `#` comes after a blank in a text.
 fn has_comment(text: &[u8]) -> bool
     ensures { result ≡ has_comment text.now }
 {
@@ -197,8 +197,8 @@ fn is_to_expand(value: &[u8]) -> bool
     has(value, b'$') || has_home(unquoted(value)) || !is_quoted(value) && has_comment(value)
 }
 
-/// Whether a setting's value has a `$`, a `~/` at its head or behind a colon, or outside quotes a blank and `#`: cron
-/// expands nothing, and takes a comment for a part of the value.
+/// Whether a setting's value has a `$`, a `~/` at its beginning or after a colon, or a blank and `#` outside quotes.
+/// Cron expands nothing, and takes a comment for a part of the value.
 pub fn is_not_expanded(text: &[u8]) -> bool
     ensures { result ≡ is_not_expanded text.now }
 {

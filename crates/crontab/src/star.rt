@@ -1,12 +1,12 @@
-//! The star in a job's times by which cron goes where the clock changes.
+//! The star in a job's times, which decides what cron does where the clock changes.
 ghost use Rattle.std.specs.Prelude.{◌≡◌};
 ghost use Rattle.crontab.specs.Star.{has_clock_star};
 
 use crate::bytes::begins_with;
 use crate::line::word;
 
-/// Whether the text of a job's minutes or that of its hours begins with a star, or its times are `@hourly`. They are given as they are
-/// written, as in [`Job::schedule`](crate::line::Job::schedule).
+/// Whether the text of a job's minutes or that of its hours begins with a star, or its times are `@hourly`. `schedule` is the text as
+/// it is written, as in [`Job::schedule`](crate::line::Job::schedule).
 ///
 /// ```
 /// let starred = has_clock_star(b"*/30 2 * * *"); // true

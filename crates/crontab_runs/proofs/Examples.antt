@@ -108,7 +108,7 @@ back_starred = refl
 abbrev monrovia : (ℤ → Bool) → Bool → ℤ → ℕ
 monrovia names starred i = length (started_at names starred (neg_ℤ (pos 2_670)) ((pos 63_593_070, pos 0) ∷ []) i)
 
--- midnight's start comes at 00:44:30, but not that of `*/15`; `44 *` starts there too, and what is named at 00:45 half a minute behind it
+-- midnight's start comes at 00:44:30, but not that of `*/15`; `44 *` starts there too, and what is named at 00:45 half a minute after it
 within_a_minute : (monrovia (daily (on 0) (on 0)) false (pos 63_593_070) ≡ 1)
     × (monrovia (daily (λ m. m % 15 == 0) each) true (pos 63_593_070) ≡ 0)
     × (monrovia (daily (on 44) each) true (pos 63_593_070) ≡ 1)

@@ -1,4 +1,4 @@
--- The search for a start behind the first second of a stretch, by the nearest named minute.
+-- The search for a start after the first second of a stretch, by the nearest named minute.
 use Rattle.std.proofs.Common.{◌≡◌, ◌⊎◌, inl, inr, ◌∙◌, subst, refl, arith, Bool, true, false, ℤ, pos, ◌+ℤ◌, ◌-ℤ◌, ◌*ℤ◌, ◌<ℤ◌, ◌≤ℤ◌, lit<}
 use Rattle.std.proofs.lemmas.Int.{ints, int_max_is}
 use Rattle.croner_base.specs.declared.time.Direction.{Direction}
@@ -28,7 +28,7 @@ module _ (begin o before : ℤ) where
   least_new true m h = inl refl
   least_new false m h = inr (omega (arith, ints, int_max_is (minute_of (begin +ℤ o) +ℤ pos 1) (minute_of before +ℤ pos 1)))
 
--- a minute that begins at or behind an instant is met from the minute of that instant
+-- a minute that begins at or after an instant is met from the minute of that instant
 minute_met : (direction : Direction) (from o least i m : ℤ) → i +ℤ o ≡ m *ℤ pos 60 → Reaches direction from i → least ≤ℤ m → Reaches direction (minute_from direction (from +ℤ o) least) m
 minute_met Forward from o least i m e h low = omega (arith, ints, minute_bounds (from +ℤ o +ℤ pos 59), int_max_is (minute_of (from +ℤ o +ℤ pos 59)) least)
 minute_met Backward from o least i m e h low = omega (arith, ints, minute_bounds (from +ℤ o))
@@ -73,7 +73,7 @@ module _ (z : Zone) (begin end o before : ℤ) (s : IsStretch z begin end o befo
       none m on (subst (IsWithin direction) same within) named
 
   module _ (k : ℤ) (near : IsNearestNamed direction meaning start k) where
-    -- the nearest named minute is started where it begins, if that is in the stretch and behind its first second
+    -- the nearest named minute is started where it begins, if that is in the stretch and after its first second
     pub nearest_inside : least ≤ℤ k → (k *ℤ pos 60 -ℤ o) <ℤ end
         → IsNearestStart direction (cron_job meaning starred) z (IsBehind direction begin end from) (k *ℤ pos 60 -ℤ o)
         × StartsTimes (cron_job meaning starred) z (k *ℤ pos 60 -ℤ o) 1

@@ -13,7 +13,7 @@ use Rattle.crontab_runs.specs.Starts.{minute_of}
 use Rattle.crontab_runs.proofs.DueMinutes.{minute_bounds}
 use Rattle.crontab_runs.proofs.PartStarts.{named_bounds}
 
--- no pattern names a minute behind all years
+-- no pattern names a minute beyond all years
 pub none_behind_all : (direction : Direction) (from : ℤ) (m : Meaning) → ((k : ℤ) → neg_ℤ (pos far_minutes) <ℤ k → k <ℤ pos far_minutes → Reaches direction from k → ⊥) → NoneNamed direction m from
 none_behind_all direction from m far = λ k on within named. let b = named_bounds m k named in far k (omega (arith, ints, b)) (omega (arith, ints, b)) on
 

@@ -29,7 +29,7 @@ module _ (z : Zone) (begin end o before : ℤ) (s : IsStretch z begin end o befo
   here : minute_of (z.reads begin) ≡ minute_of (begin +ℤ o)
   here = ap minute_of (s.steady begin (omega (arith, ints)) s.order)
 
-  -- behind the first second it starts a job for the shown minute alone
+  -- after the first second it starts a job for the shown minute alone
   pub none_inside : (i : ℤ) → begin <ℤ i → i <ℤ end → MakesUpForNone job z i
   none_inside i low high k makes =
       let m : ℤ = minute_of (z.reads i) in

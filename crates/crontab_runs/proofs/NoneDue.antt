@@ -20,7 +20,7 @@ none_count m after upto none = (
   refl,
 )
 
--- forward from behind the first of them, and backward from the last
+-- forward from after the first of them, and backward from the last
 pub none_ahead : (m : Meaning) (direction : Direction) (after upto from first : ℤ) → direction ≡ Forward → from ≡ after +ℤ pos 1 → AreAllFrom direction m from first → upto <ℤ first
     → IsNamedCount (NamesMinute m) after upto 0
 none_ahead m direction after upto from first e is all past =

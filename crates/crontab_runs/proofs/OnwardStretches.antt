@@ -23,7 +23,7 @@ either_least : (b : Bool) (x y r m : ℤ) → (b ≡ true → (r ≤ℤ x) ⊎ (
 either_least true x y r m h k = h refl
 either_least false x y r m h k = k refl
 
--- what is due is so behind the greatest minute, or it is the one that is shown
+-- what is due is so after the greatest minute, or it is the one that is shown
 due_least : (starred : Bool) (r m : ℤ) → (r ≤ℤ due_after starred r m) ⊎ ((m -ℤ pos 1) ≤ℤ due_after starred r m)
 due_least starred r m =
     let old : r ≤ℤ r = omega (arith, ints) in
@@ -52,7 +52,7 @@ module _ (z : Zone) (begin end o before : ℤ) (s : IsStretch z begin end o befo
         upto,
       )
 
-  -- before it nothing is started for a minute behind the greatest, nor for one three hours before the one that is shown
+  -- before it nothing is started for a minute after the greatest, nor for one three hours before the one that is shown
   started_before : i <ℤ begin → Starts (cron_job m starred) z i → (k : ℤ) × NamesMinute m k × (k ≤ℤ minute_of before) × (minute_of (z.reads i) <ℤ (k +ℤ pos most_changed))
   started_before high (n, some, (minutes, for, count)) =
       let (k, over, upto, named) = some_named (NamesMinute m) _ _ minutes for.due (omega (arith, some, count)) in

@@ -199,7 +199,7 @@ module _ (p : Part) where
   reads_begin : (zone_in p).reads p.stretch.begin ≡ p.stretch.begin +ℤ p.stretch.offset
   reads_begin = p.stretch.fits.steady p.stretch.begin (omega (arith, ints)) p.stretch.fits.order
 
-  -- forward the first second comes before what is behind it
+  -- forward the first second comes before what is after it
   pub first_forward : p.direction ≡ Forward → (s : Start) → IsFoundAtBegin p s → IsFoundOf p (Within p) s
   first_forward e s found = found_first s (λ j behind starts. (forward_reaches p.direction p.stretch.begin j e).0 (omega (arith, ints, behind.0))) found
 
@@ -207,7 +207,7 @@ module _ (p : Part) where
   later_forward None first behind = none_found behind (λ _. first)
   later_forward (Some s) first found = found_later s (λ starts on. absurd (first on starts)) found
 
-  -- and backward behind it
+  -- and backward after it
   pub later_backward : p.direction ≡ Backward → (s : Start) → IsFoundOf p (Behind p) s → IsFoundOf p (Within p) s
   later_backward e s found = found_later s (λ _ _. backward_reaches p.direction s.second p.stretch.begin e (omega (arith, ints, found.0.counts.0.0))) found
 

@@ -50,7 +50,7 @@ module _ (job : CronJob) (t : TableTime) (table : ClockTable) (s : Stretch) (fro
         by_lt_z i s.begin (λ less. none_yet i after less starts) (λ ge. here i (ge, lt, omega (arith, ints, after, second)) starts)
 
     module _ (n : ℕ) (le : n ≤ length table.changes.items) (end_is : s.end ≡ end_of table.changes.items n) (on : GoesOn Forward job s from) where
-      -- behind the last stretch the searched years are over
+      -- after the last stretch the searched years are over
       pub not_last : n + 1 ≤ length table.changes.items
       not_last = elim (nat_cases n (length table.changes.items)) [
         | inl lt ↦ omega (arith, lt)

@@ -46,7 +46,7 @@ end_small s =
       omega (arith, ints, f.begin_low, f.order, f.end_high, f.offset_low, f.offset_high),
     )
 
--- whether the searched years go on behind it
+-- whether the searched years go on beyond it
 pub far_forward : (direction : Direction) (s : Stretch) → direction ≡ Forward → far_wall direction s ≡ s.end -ℤ pos 1 +ℤ s.offset
 far_forward direction s e = ap (λ (d : Direction). far_wall d s) e
 

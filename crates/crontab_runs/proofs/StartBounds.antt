@@ -22,7 +22,7 @@ use Rattle.crontab_runs.proofs.DueMinutes.{minute_bounds, due_near}
 use Rattle.crontab_runs.proofs.PartStarts.{named_bounds}
 use Rattle.crontab_runs.proofs.StretchStarts.{some_named}
 
--- it lies at most three hours behind a minute of the years that a pattern can name
+-- it lies at most three hours after a minute of the years that a pattern can name
 start_bounds : (m : Meaning) (starred : Bool) (t : ClockTable) (i : ℤ) → Starts (cron_job m starred) (table_zone t) i
     → ((first_instant ≤ℤ (i -ℤ pos 1)) × (i ≤ℤ last_instant))
 unfolding clock
@@ -45,7 +45,7 @@ before_held m starred t i is =
     let bounds = start_bounds m starred t i is in
     between_test first_instant last_instant (i -ℤ pos 1) bounds.0 (omega (arith, ints, bounds))
 
--- and so is the second from which a search goes on behind a start that it found
+-- and so is the second from which a search goes on past a start that it found
 pub onward_held : (d : Direction) (job : CrontabJob) (t : TableTime) (found : Option Start)
     → MatchOption found (NoStartLeft d (cron_job_of job) (table_moment t)) (IsStartFound d (cron_job_of job) (table_moment t))
     → IfSome found (λ s. is_table_second (onward_from d s.second) ≡ true)

@@ -28,17 +28,17 @@ use Rattle.crontab_runs.specs.Views.{cron_job_of}
 
 -- ---- what is left from a second on, in a direction
 
--- behind one that is left, all that is left was left before
+-- after one that is left, all that is left was left before
 left_before : (d : Direction) (runs : ℤ → Type 0) (s t i : ℤ) → CountsFrom d runs s t → CountsFrom d runs (onward_from d t) i → CountsFrom d runs s i
 left_before Forward runs s t i at on = (omega (arith, ints, at.0, on.0), on.1)
 left_before Backward runs s t i at on = (omega (arith, ints, at.0, on.0), on.1)
 
--- it comes behind that one
+-- it comes after that one
 comes_behind : (d : Direction) (runs : ℤ → Type 0) (t i : ℤ) → CountsFrom d runs (onward_from d t) i → Precedes d t i
 comes_behind Forward runs t i on = on.0
 comes_behind Backward runs t i on = omega (arith, ints, on.0)
 
--- what comes no earlier than that one is it, or is left behind it
+-- what comes no earlier than that one is it, or is left after it
 it_or_behind : (d : Direction) (runs : ℤ → Type 0) (t i : ℤ) → runs i → Reaches d t i → (t ≡ i) ⊎ CountsFrom d runs (onward_from d t) i
 it_or_behind Forward runs t i is reaches = by_lt_z t i (λ lt. inr (lt, is)) (λ le. inl (omega (arith, ints, le, reaches)))
 it_or_behind Backward runs t i is reaches = by_lt_z i t (λ lt. inr (omega (arith, ints, lt), is)) (λ le. inl (omega (arith, ints, le, reaches)))
@@ -47,14 +47,14 @@ run_of : (d : Direction) (runs : ℤ → Type 0) (s i : ℤ) → CountsFrom d ru
 run_of Forward runs s i on = on.1
 run_of Backward runs s i on = on.1
 
--- nothing comes behind another one, and no later than it
+-- nothing comes after another one, and no later than it
 not_both : (d : Direction) (x i : ℤ) → Precedes d x i → Reaches d i x → ⊥
 not_both Forward x i behind by = omega (arith, ints, behind, by)
 not_both Backward x i behind by = omega (arith, ints, behind, by)
 
--- ---- a listing and what is left behind it
+-- ---- a listing and what is left after it
 
--- the seconds come first among those that are left, and what is left behind them is the second
+-- the seconds come first among those that are left, and what is left after them is the second
 pub record Splits (d : Direction) (left rest : ℤ → Type 0) (items : List ℤ) : Type 0 where
   pub ordered : AllPairs (Precedes d) items
   pub counts : All left items
@@ -71,7 +71,7 @@ splits_none d left = record {
   within = λ i is. is;
 }
 
--- the nearest start is one more of them, and behind it are those that are left from there
+-- the nearest start is one more of them, and after it are those that are left from there
 splits_next : (d : Direction) (job : CronJob) (z : Zone) (left : ℤ → Type 0) (s t : ℤ) (items : List ℤ)
     → Splits d left (CountsFrom d (Starts job z) s) items → NearestWhere d (CountsFrom d (Starts job z) s) t
     → Splits d left (CountsFrom d (Starts job z) (onward_from d t)) (items ++ t ∷ [])

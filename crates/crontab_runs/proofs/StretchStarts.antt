@@ -29,7 +29,7 @@ module _ (z : Zone) (begin end o before : ℤ) (s : IsStretch z begin end o befo
     greatest = λ j lt. minute_rises (z.reads j) before (s.past j lt);
   }
 
-  -- behind it the clock shows another minute where one begins
+  -- after it the clock shows another minute where one begins
   pub turn_inside : (i : ℤ) → begin <ℤ i → i <ℤ end → Turns z i → i +ℤ o ≡ minute_of (z.reads i) *ℤ pos 60
   turn_inside i low high turns =
       let here = s.steady i (omega (arith, ints)) high in
@@ -79,7 +79,7 @@ module _ (z : Zone) (begin end o before : ℤ) (s : IsStretch z begin end o befo
     due_fresh : (starred : Bool) → due_after starred (m -ℤ pos 1) m ≡ m -ℤ pos 1
     due_fresh starred = due_late starred (m -ℤ pos 1) m (omega (arith, ints)) (omega (arith, ints))
 
-    -- behind the greatest minute a starred job is due for the minute, and no other
+    -- after the greatest minute a starred job is due for the minute, and no other
     due_again : (starred : Bool) → m ≤ℤ minute_of before → starred ≡ true → due_after starred (minute_of before) m ≡ m -ℤ pos 1
     due_again starred again is = subst (λ (b : Bool). due_after b (minute_of before) m ≡ m -ℤ pos 1) (sym is) (due_behind_starred (minute_of before) m again (near again))
 
@@ -133,7 +133,7 @@ module _ (z : Zone) (begin end o before : ℤ) (s : IsStretch z begin end o befo
               absurd (omega (arith, ints, low, high))
         ])
 
-  -- the starts behind the first second are those of whole minutes
+  -- the starts after the first second are those of whole minutes
   pub starts_inside : (job : CronJob) (i : ℤ) → begin <ℤ i → i <ℤ end → Starts job z i → (m : ℤ) × IsMinuteStart job o before i m
   starts_inside job i low high starts =
       let (n, some, (minutes, for, count)) = starts in

@@ -1,4 +1,5 @@
--- The starts of a job after a time, or up to it and backward, the nearest first, and a listing of them up to a second. Source: this crate's documentation.
+-- The starts of a job after a time, or up to it and backward, the nearest first, and a listing of them up to a second. Source: this crate's
+-- documentation.
 use Rattle.std.specs.Prelude.{◌≡◌, ◌≤◌, ℕ, ℤ, pos, ◌-ℤ◌, List, [], ◌∷◌, ◌++◌, length, map, Option, Some, None}
 use Rattle.std.specs.List.{All, Contains}
 use Rattle.croner_base.specs.declared.time.Direction.{Direction}
@@ -19,7 +20,7 @@ use Rattle.crontab_runs.specs.Views.{cron_job_of}
 
 -- ---- the iterator
 
--- from where a search goes on behind a start: forward it leaves the start's second out, backward it counts the one before
+-- from where a search goes on past a start: forward it leaves the start's second out, backward it counts the one before
 abbrev pub onward_from : Direction → ℤ → ℤ
 onward_from Forward i = i
 onward_from Backward i = i -ℤ pos 1
@@ -31,7 +32,8 @@ pub record GoesOnFrom (second : ℤ) (old new : StartIterator) : Type 0 where
   pub direction : new.direction ≡ old.direction
   pub at : new.position.second ≡ second
 
--- what a call of `next` does: it gives the nearest start and goes on behind it; or none is left in the searched years, and it stays where it stands
+-- what a call of `next` does: it gives the nearest start and goes on past it; or none is left in the searched years, and it stays where it
+-- is
 abbrev pub Steps : StartIterator → Option Start → StartIterator → Type 0
 Steps old None new = NoStartLeft old.direction (cron_job_of old.job.now) (table_moment old.position) × GoesOnFrom old.position.second old new
 Steps old (Some s) new =
@@ -51,8 +53,8 @@ IsLeftIn direction job time = CountsFrom direction (Starts job time.zone) time.i
 abbrev pub IsLeft : CronJob → Moment → ℤ → Type 0
 IsLeft job time = IsLeftIn Forward job time
 
--- how the listing ended: with as many starts as were asked for at most; at the next start behind them, which lies past the second; or with all
--- that are left in the searched years
+-- how the listing ended: with as many starts as were asked for at most; at the next start, which lies past the second; or with all that are
+-- left in the searched years
 abbrev pub Ends : Direction → CronJob → Moment → Option ℤ → ℕ → List Start → StartsEnd → Type 0
 Ends direction job time until limit starts ends.Full = length starts ≡ limit
 Ends direction job time until limit starts (ends.Past next) =

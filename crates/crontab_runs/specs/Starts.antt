@@ -1,7 +1,7 @@
--- What Debian's cron starts of a job, minute by minute, also where the clock changes: for a cron that runs all the while, looks at the clock
--- each second (a real one sleeps up to the next minute, which it may miss where the clock changes within it), and whose starts take no time;
--- in a calm zone, from 1970 on the wall clock. Where a clock shows a minute 180 or more below the greatest, which no calm one does, cron
--- forgets that one, and this definition doesn't. Source: the main loop of cron 3.0pl1-162.
+-- What Debian's cron starts of a job, minute by minute, also where the clock changes: for a cron that runs all the time, looks at the clock
+-- each second, and whose starts take no time; in a calm zone, from 1970 on the wall clock. A real one sleeps up to the next minute, which
+-- it may miss if the clock changes within it. Where a clock shows a minute 180 or more below the greatest, which no calm one does, cron
+-- forgets the greatest, and this definition doesn't. Source: the main loop of cron 3.0pl1-162.
 use Rattle.std.specs.Prelude.{◌≡◌, ◌&&◌, ℕ, ◌+◌, ◌<◌, Bool, if◌then◌else◌, ℤ, pos, ◌-ℤ◌, ◌<ℤ◌, ◌≤ℤ◌, int_le, List, length}
 use Rattle.std.specs.Int.{int_div_euclid}
 use Rattle.std.specs.List.{All, Contains}
@@ -18,8 +18,7 @@ minute_of w = int_div_euclid w (pos 60)
 abbrev pub NamesMinute : Meaning → ℤ → Type 0
 NamesMinute m k = (w : ℤ) × (minute_of w ≡ k) × IsScheduled m w
 
--- what cron goes by: the minutes that a job names, and whether it is starred, which it is where the text of its minutes or of its hours begins
--- with a star
+-- what cron goes by: the minutes that a job names, and whether it is starred (the text of its minutes or of its hours begins with a star)
 pub record CronJob : Type 1 where
   pub names : ℤ → Type 0
   pub starred : Bool

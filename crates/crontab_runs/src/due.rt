@@ -1,4 +1,4 @@
-//! What of a job is due when the clock shows another minute.
+//! For which minutes a job is due when the clock shows another minute.
 ghost use Rattle.std.specs.Prelude.{MatchOption, ◌≡◌, ◌↔◌, ◌≤◌, IsTrue, pos, neg_ℤ, ◌+ℤ◌, ◌-ℤ◌, ◌*ℤ◌, ◌≤ℤ◌};
 ghost use Rattle.croner_base.specs.TableZone.{table_zone};
 ghost use Rattle.croner.specs.Views.{job_of};
@@ -14,10 +14,11 @@ use crate::minutes::{NearestMinute, minute_of, nearest_named};
 use crate::stretch::Stretch;
 use croner::Direction;
 
-/// So many minutes late cron makes up for each of them, as if it had waked late.
+/// Where the clock shows at most this many minutes more than before, cron makes up for each of them, as if it had woken late.
 const MOST_LATE: i64 = 5;
 
-/// So many minutes the clock is put forward, or by less is it put back, where cron takes it for a change of the clock that it makes up for.
+/// Where the clock goes forward by at most this many minutes, or back by fewer, cron takes that for a change of the clock, and makes up for
+/// it.
 pub(crate) const MOST_CHANGED: i64 = 180;
 
 // The direction from a minute to the year 1970.
@@ -31,10 +32,10 @@ fn towards_1970(minute: i64) -> Direction
     }
 }
 
-/// The minute after which cron starts a job for each minute that it names, up to the minute that the clock shows now. `shown` is the greatest
-/// that the clock has shown before. Minutes are counted from 1970-01-01T00:00 on the wall clock.
+/// The minute after which cron starts a job for each minute that the job names, up to `minute`, which the clock shows now. `shown` is the
+/// greatest minute that the clock has shown before. Minutes are counted from 1970-01-01T00:00 on the wall clock.
 ///
-/// Where the answer is `minute`, it starts nothing.
+/// Where the answer is `minute`, cron starts nothing.
 pub fn due_after(is_starred: bool, shown: i64, minute: i64) -> i64
     requires shown_low { neg_ℤ (pos far_minute) ≤ℤ shown }
     requires shown_high { shown ≤ℤ pos far_minute }
@@ -58,7 +59,7 @@ pub fn due_after(is_starred: bool, shown: i64, minute: i64) -> i64
     minute - 1
 }
 
-/// For which minutes cron starts a job at the first second of a stretch, if it names them.
+/// The minutes for which cron starts a job at the first second of a stretch, if the job names them.
 #[derive(Clone, Copy)]
 pub(crate) struct Due {
     /// The minute before the first of them.
@@ -67,7 +68,8 @@ pub(crate) struct Due {
     pub(crate) shown: i64,
 }
 
-/// For which minutes cron starts a job at the first second of a stretch, if it names them: none where the clock goes on within a minute.
+/// The minutes for which cron starts a job at the first second of a stretch, if the job names them: none where the clock goes on within a
+/// minute.
 pub(crate) fn due_at_begin(is_starred: bool, stretch: &Stretch<'_>) -> Option<Due>
     ensures { MatchOption result (GoesOnWithinMinute stretch.now) (IsDueAtBegin is_starred stretch.now) }
 {
@@ -83,7 +85,7 @@ pub(crate) fn due_at_begin(is_starred: bool, stretch: &Stretch<'_>) -> Option<Du
 }
 
 impl CrontabJob {
-    /// Whether the job names a minute: then it is the nearest one from itself on.
+    /// Whether the job names a minute, which is so where the nearest named minute from it on is itself.
     pub(crate) fn names(&self, minute: i64) -> bool
         ensures { IsTrue result ↔ NamesMinute (job_of self.now.cron) minute }
     {
@@ -93,7 +95,7 @@ impl CrontabJob {
         }
     }
 
-    // Whether what is known, or one search, shows that the job names no minute after one and up to another.
+    // Whether what is known, or a single search, shows that the job names no minute after one and up to another.
     fn names_none(&self, known: &NearestMinute, after: i64, upto: i64) -> bool
         requires known { IsKnown (job_of self.now.cron) known.now }
         requires low { neg_ℤ (pos far) ≤ℤ after }

@@ -1,4 +1,4 @@
-//! The starts of a job after a time, or up to it and backward, the nearest first, and a listing of them up to a second.
+//! The starts of a job after a time, or backward from it, the nearest first, and a listing of them up to a second.
 ghost use Rattle.std.specs.Prelude.{◌≡◌, ◌<◌, ◌↔◌, ◌-ℤ◌, pos, IfOk, IfSome, IsTrue, MatchOption, true, vec_len, vec_capacity};
 ghost use Rattle.croner_base.specs.Table.{is_table_second};
 ghost use Rattle.croner_base.specs.TableZone.{table_moment};
@@ -14,11 +14,11 @@ use croner::Direction;
 use croner::time::table::TableTime;
 use std::alloc::{AllocError, Global};
 
-/// The starts of a job in a direction, each once and none left out: those after a time, in order; or those up to a time, which counts itself,
-/// the latest first.
+/// The starts of a job in a direction, each once and none left out: those after a time, in order; or those up to and including a time, the
+/// latest first.
 ///
-/// A call of `next` that gives none says that none is left in the searched years, which end where the clock first shows year 5000, and begin
-/// where it has last shown year 1.
+/// Where `next` gives `None`, no start is left in the searched years. These end when the clock first shows year 5000, and begin when it
+/// last shows year 1.
 #[derive(Debug, Clone, Copy)]
 pub struct StartIterator<'j, 't> {
     job: &'j CrontabJob,
@@ -47,7 +47,7 @@ impl<'j, 't> StartIterator<'j, 't> {
         }
     }
 
-    /// The starts of a job up to a time, which counts itself, the latest first. No search is made before the first call of `next`.
+    /// The starts of a job up to and including a time, the latest first. No search is made before the first call of `next`.
     ///
     /// ```
     /// let job = CrontabJob { cron: Cron::from_str(alloc, "30 2 * * *")?, is_starred: false };
@@ -98,7 +98,7 @@ impl<'j, 't> Iterator for StartIterator<'j, 't> {
     }
 }
 
-// From where a search goes on behind a start: forward it leaves that second out, backward it counts the one before.
+// From where a search goes on past a start: forward it leaves that second out, backward it includes the one before.
 fn onward_from(direction: Direction, second: i64) -> i64
     requires { is_table_second second ≡ true }
     ensures { result ≡ onward_from direction second }
@@ -124,21 +124,21 @@ fn time_at<'t>(time: &TableTime<'t>, second: i64) -> TableTime<'t>
 /// How a listing of starts up to a second ended.
 #[derive(Debug, Clone, Copy, PartialEq, Eq, Hash)]
 pub enum StartsEnd {
-    /// There are as many as were asked for at most. No search was made behind the last of them.
+    /// The listing has `most` starts. No search was made past the last of them.
     Full,
-    /// The next start behind those of the listing, in its direction, which lies past the second.
+    /// The next start in the listing's direction lies past the second. It is this one.
     Past(Start),
     /// No start is left in the searched years.
     Over,
 }
 
-/// The starts of a job after a time and no later than a second, where there is one, and so many at most; and how their listing ended.
-/// The second is counted from 1970-01-01T00:00:00 UTC.
+/// The first starts of a job after a time, and how the listing ended: at most `most`, and up to and including the second `until`
+/// if one is given. The second is counted from 1970-01-01T00:00:00 UTC.
 ///
-/// The starts are in order, none is left out up to the last, and each counts how many times cron starts the job there. One search is made for
-/// each, until there are `most`, a start lies past the second, or none is left.
+/// The starts are in order, with none left out up to the last, and each has the number of times that cron starts the job then. One search
+/// is made for each, until there are `most`, a start lies past the second, or none is left.
 ///
-/// The only error is want of memory, for the room of `most` starts, which is taken first.
+/// The only error is lack of memory for `most` starts, which is reserved first.
 ///
 /// ```
 /// let job = CrontabJob { cron: Cron::from_str(alloc, "30 2 * * *")?, is_starred: false };
@@ -157,13 +157,13 @@ pub fn next_starts_until(
     starts_until(alloc, StartIterator::new(job, after), until, most)
 }
 
-/// The starts of a job up to a time, which counts itself, and no earlier than a second, where there is one, the latest first, and so many at
-/// most; and how their listing ended. The second is counted from 1970-01-01T00:00:00 UTC.
+/// The last starts of a job up to and including a time, the latest first, and how the listing ended: at most `most`, and back to and
+/// including the second `until` if one is given. The second is counted from 1970-01-01T00:00:00 UTC.
 ///
-/// They go back in order, none is left out down to the last, and each counts how many times cron starts the job there. So each start is one of
-/// these, or one of [`next_starts_until`] after the same time, and none is both. Searches are made as there.
+/// They go back in order, with none left out down to the last, and each has the number of times that cron starts the job then. So a start
+/// is either one of these or one of [`next_starts_until`] after the same time, never both. Searches are made as there.
 ///
-/// The only error is want of memory, for the room of `most` starts, which is taken first.
+/// The only error is lack of memory for `most` starts, which is reserved first.
 ///
 /// ```
 /// let job = CrontabJob { cron: Cron::from_str(alloc, "30 2 * * *")?, is_starred: false };
@@ -182,7 +182,7 @@ pub fn last_starts_until(
     starts_until(alloc, StartIterator::backward(job, time), until, most)
 }
 
-// What an iterator gives up to a second, in its direction, and so many at most.
+// The first starts of an iterator in its direction: at most `most`, and up to a second.
 fn starts_until(
     alloc: Global,
     iterator: StartIterator<'_, '_>,
@@ -202,7 +202,7 @@ fn starts_until(
     Ok((starts, StartsEnd::Full))
 }
 
-// Puts the next start behind the others unless it lies past the second; or answers how the listing ends.
+// Appends the next start to the others unless it lies past the second; or returns how the listing ends.
 fn take_next_until(
     left: &mut StartIterator<'_, '_>,
     starts: &mut Vec<Start>,
@@ -225,7 +225,7 @@ fn take_next_until(
     }
 }
 
-// Whether a second comes no later in a direction than another, where there is one.
+// Whether a second comes no later in a direction than another, if there is another.
 fn comes_by(direction: Direction, until: Option<i64>, second: i64) -> bool
     ensures { IsTrue result ↔ ComesBy direction until second }
 {

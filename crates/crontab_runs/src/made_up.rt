@@ -15,10 +15,10 @@ use crate::stretch::{Stretch, changes_until};
 use croner::time::table::TableTime;
 
 impl CrontabJob {
-    /// For which minute cron starts the job at a time first, where the clock shows a later one: it has skipped that minute, and cron makes
-    /// up for it. `None` where cron starts the job for the shown minute alone, or not at all.
+    /// The first skipped minute for which cron starts the job at a time: the clock shows a later minute then, and cron makes up for this
+    /// one. `None` where cron starts the job for the shown minute alone, or not at all.
     ///
-    /// The answer is the wall second with which that minute begins, counted from 1970-01-01T00:00:00 as if the wall clock never changed.
+    /// The answer is the wall second at which that minute begins, counted from 1970-01-01T00:00:00 as if the wall clock never changed.
     pub fn first_made_up(&self, time: &TableTime<'_>) -> Option<i64>
         ensures { MatchOption result (MakesUpForNone (cron_job_of self.now) (table_zone time.now.table.now) time.now.second)
             (MakesUpFrom (cron_job_of self.now) (table_zone time.now.table.now) time.now.second) }
@@ -43,7 +43,7 @@ impl CrontabJob {
         }
     }
 
-    // With which wall second the first minute begins that the job names after one and before another.
+    // The wall second at which the first minute begins that the job names after one minute and before another.
     fn first_named_between(&self, after: i64, before: i64) -> Option<i64>
         requires low { neg_ℤ (pos far) ≤ℤ after }
         requires order { after ≤ℤ before }

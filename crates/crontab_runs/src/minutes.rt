@@ -35,12 +35,12 @@ pub(crate) fn minute_of(wall: i64) -> i64
 /// The seconds of the years 1 and 5000.
 const SECONDS_PER_YEAR: i64 = 365 * SECONDS_PER_DAY as i64;
 
-/// The first wall second of year 2, and that of year 5000: between them a search looks through all.
+/// The first wall second of year 2, and that of year 5000. Between them a search leaves nothing out.
 const FIRST_WITHIN: i64 = FIRST_SEARCHED_SECOND + SECONDS_PER_YEAR;
 
 const FIRST_BEYOND: i64 = LAST_SEARCHED_SECOND + 1 - SECONDS_PER_YEAR;
 
-/// Whether a wall second lies before year 5000 forward, after year 1 backward.
+/// Whether a wall second lies before year 5000 (forward) or after year 1 (backward).
 pub(crate) fn is_within(wall: i64, direction: Direction) -> bool
     ensures { IsTrue result ↔ IsWithin direction wall }
 {
@@ -61,8 +61,8 @@ fn civil_of(wall: i64) -> CivilDateTime
     }
 }
 
-// The wall second from which the civil search for a minute goes, from one on: its first second forward, its last backward. `None` past the years
-// that a pattern can name.
+// The wall second from which the civil search for a named minute starts, given the minute from which on: that minute's first second
+// forward, its last backward. `None` past the years that a pattern can name.
 
 fn search_start(from: i64, direction: Direction) -> Option<i64>
     ensures { MatchOption result (IsBeyond direction from) (IsSearchStart direction from) }
@@ -83,8 +83,8 @@ fn search_start(from: i64, direction: Direction) -> Option<i64>
     }
 }
 
-/// The nearest minute that a job names, from one on, itself included. `None` where none is left before year 5000 forward, or after year 1
-/// backward.
+/// The nearest minute that a job names, from one on, itself included. `None` where none is left before year 5000 (forward) or after year
+/// 1 (backward).
 pub(crate) fn nearest_named(cron: &Cron, from: i64, direction: Direction) -> Option<i64>
     ensures { MatchOption result (NoneNamed direction (job_of cron.now) from) (IsNearestNamed direction (job_of cron.now) from) }
 {
@@ -97,10 +97,10 @@ pub(crate) fn nearest_named(cron: &Cron, from: i64, direction: Direction) -> Opt
     }
 }
 
-/// So many minutes from 1970 no pattern names one.
+/// No pattern names a minute this far from 1970.
 const FAR_MINUTES: i64 = 2_000_000_000;
 
-// Whether a minute is another one, or lies behind that in a direction.
+// Whether a minute is another one, or comes after it in a direction.
 fn reaches(direction: Direction, from: i64, minute: i64) -> bool
     ensures { IsTrue result ↔ Reaches direction from minute }
 {
@@ -120,8 +120,8 @@ fn first_past(direction: Direction) -> i64
     }
 }
 
-/// What a search knows of a job's minutes: the nearest one that it names, from a minute on, itself included. `None` where none is left before
-/// year 5000 forward, or after year 1 backward.
+/// What a search knows of a job's minutes: the nearest one that it names, from a minute on, itself included. `None` where none is left
+/// before year 5000 (forward) or after year 1 (backward).
 #[derive(Clone, Copy)]
 pub(crate) struct NearestMinute {
     pub(crate) direction: Direction,
@@ -132,7 +132,7 @@ pub(crate) struct NearestMinute {
 impl NearestMinute {
     ghost use Rattle.crontab_runs.specs.Private.Known.{IsKnown, Serves, AreAllFrom, far_minutes};
 
-    /// Before all searches: no job names a minute behind all years.
+    /// What is known before any search: no job names a minute beyond all years.
     pub(crate) fn behind_all(direction: Direction) -> NearestMinute
         ensures direction { result.direction ≡ direction }
         ensures known { (m : Meaning) → IsKnown m result }
@@ -148,7 +148,7 @@ impl NearestMinute {
         }
     }
 
-    // Whether what is known is so from another minute on, too.
+    // Whether what is known also holds from another minute on.
     fn serves(&self, from: i64) -> bool
         ensures { IsTrue result → Serves self.now from }
     {
@@ -161,7 +161,7 @@ impl NearestMinute {
         }
     }
 
-    /// The nearest minute from another one on. It is sought where it isn't known.
+    /// The nearest named minute from another one on. It is searched for where it isn't known.
     pub(crate) fn nearest_from(&self, cron: &Cron, from: i64) -> Option<i64>
         requires { IsKnown (job_of cron.now) self.now }
         ensures { MatchOption result (NoneNamed self.now.direction (job_of cron.now) from) (IsNearestNamed self.now.direction (job_of cron.now) from) }
@@ -187,8 +187,7 @@ impl NearestMinute {
         }
     }
 
-    /// The first minute that the job may name, from the known one on: it names none before it. That is the nearest one, or the first past the
-    /// searched years.
+    /// The first minute that the job may name from `from` on: the nearest named one, or the first past the searched years.
     pub(crate) fn first(&self, cron: &Cron) -> i64
         requires { IsKnown (job_of cron.now) self.now }
         ensures all { AreAllFrom self.now.direction (job_of cron.now) self.now.from result }

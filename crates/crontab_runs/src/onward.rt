@@ -1,4 +1,4 @@
-//! Which stretch of a clock a search comes to next: it passes over those whose clock shows nothing for which the job can be started.
+//! Which stretch of a clock a search goes to next: it skips those whose clock shows nothing for which the job can be started.
 ghost use Rattle.std.specs.Prelude.{◌≡◌, ◌≤◌, ◌<◌, length};
 ghost use Rattle.croner_base.specs.declared.time.Direction.{Direction};
 ghost use Rattle.croner.specs.Views.{job_of};
@@ -16,7 +16,7 @@ use croner::time::table::ClockTable;
 const MOST_OFFSET: i64 = 86_400;
 
 impl CrontabJob {
-    /// The stretch to which a search forward comes, of those behind so many changes and more. It is given by the changes before it.
+    /// The next stretch of a search forward, from the one after `next` changes on. A stretch is given by the number of changes before it.
     pub(crate) fn next_stretch(
         &self,
         table: &ClockTable,
@@ -35,7 +35,7 @@ impl CrontabJob {
         changes_until(table, minute * SECONDS_PER_MINUTE - MOST_OFFSET).max(next)
     }
 
-    /// The stretch to which a search backward comes from that behind so many changes.
+    /// The next stretch of a search backward from the one after so many changes.
     pub(crate) fn stretch_before(
         &self,
         table: &ClockTable,

@@ -9,7 +9,7 @@ use crate::minutes::{NearestMinute, SECONDS_PER_MINUTE, SECONDS_TO_LAST, is_with
 use crate::stretch::Stretch;
 use croner::Direction;
 
-/// A search in a stretch, from one of its seconds on, which counts itself.
+/// A search in a stretch, from one of its seconds on, itself included.
 #[derive(Clone, Copy)]
 pub(crate) struct Part<'p, 't> {
     pub(crate) job: &'p CrontabJob,
@@ -24,7 +24,7 @@ impl<'p, 't> Part<'p, 't> {
     ghost use Rattle.crontab_runs.specs.Private.Found.{least_in, Behind, Within, NoneOf, IsFoundOf, NoneAtBegin, IsFoundAtBegin, NoneAtBeginWithin, IsFoundAtBeginWithin, IsNearestFrom, KnowsOf};
     ghost use Rattle.crontab_runs.specs.Private.Parts.{least_minute, minute_from as first_minute};
 
-    // The least minute that begins behind the first second of the stretch, and that the job may be started for.
+    // The least minute that begins after the first second of the stretch, and for which the job may be started.
     fn least_minute(&self) -> i64
         ensures { result ≡ least_in self.now }
     {
@@ -36,7 +36,7 @@ impl<'p, 't> Part<'p, 't> {
         }
     }
 
-    // The minute from which one is sought.
+    // The minute from which the search for a named one starts.
     fn minute_from(&self) -> i64
         ensures { result ≡ first_minute self.now.direction (self.now.from +ℤ self.now.stretch.offset) (least_in self.now) }
     {
@@ -47,7 +47,7 @@ impl<'p, 't> Part<'p, 't> {
         }
     }
 
-    /// The minute from which a search in the stretch goes: forward, from its first second on, the least that something can be started for.
+    /// The minute from which a search in the stretch starts: forward from its first second, the least for which anything can be started.
     pub(crate) fn first_minute(&self) -> i64 {
         match self.direction {
             Direction::Forward => {
@@ -61,7 +61,7 @@ impl<'p, 't> Part<'p, 't> {
         }
     }
 
-    // The nearest start behind the first second of the stretch: there cron starts a job for one minute at a time.
+    // The nearest start after the first second of the stretch: there cron starts a job for one minute at a time.
     fn behind_begin(&self, known: &NearestMinute) -> Option<Start>
         requires { KnowsOf self.now known.now }
         ensures { MatchOption result (NoneOf self.now (Behind self.now)) (IsFoundOf self.now (Behind self.now)) }
@@ -87,7 +87,7 @@ impl<'p, 't> Part<'p, 't> {
         Some(Start { second, count: 1 })
     }
 
-    // Whether the search comes to the first second of the stretch: forward only from there.
+    // Whether the search reaches the first second of the stretch: forward, only if it starts there.
     fn reaches_begin(&self) -> bool
         ensures { IsTrue result ↔ Reaches self.now.direction self.now.from self.now.stretch.begin }
     {
@@ -127,7 +127,7 @@ impl<'p, 't> Part<'p, 't> {
         }
     }
 
-    /// The nearest start in the stretch. `None` where none is left before year 5000 forward, after year 1 backward.
+    /// The nearest start in the stretch. `None` where none is left before year 5000 (forward) or after year 1 (backward).
     pub(crate) fn nearest(&self, known: &NearestMinute) -> Option<Start>
         requires { KnowsOf self.now known.now }
         ensures { MatchOption result (NoneOf self.now (Within self.now)) (IsFoundOf self.now (Within self.now)) }

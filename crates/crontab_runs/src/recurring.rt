@@ -8,7 +8,7 @@ use croner::errors::CronError;
 use croner::time::table::TableTime;
 use croner::{Clocked, Recurring};
 
-/// Its runs are what cron starts of it, each once, however many times it is started there.
+/// Its runs are the seconds at which cron starts it, each once, however many times it is started then.
 impl<'t> Recurring<TableTime<'t>> for CrontabJob {
     ghost use Rattle.crontab_runs.specs.Starts.{Starts};
     ghost use Rattle.crontab_runs.specs.Views.{cron_job_of};

@@ -26,7 +26,7 @@ pub(crate) enum Step {
     GoOn(NearestMinute),
 }
 
-// The second of a stretch from which a search goes that comes to it from another second.
+// The second of a stretch at which a search that comes from another second begins there.
 fn first_in(stretch: &Stretch<'_>, from: i64, direction: Direction) -> i64
     requires { ComesTo direction stretch.now from }
     ensures low { stretch.now.begin ≤ℤ result }
@@ -39,7 +39,7 @@ fn first_in(stretch: &Stretch<'_>, from: i64, direction: Direction) -> i64
     }
 }
 
-// Whether the searched years go on behind a stretch.
+// Whether the searched years go on beyond a stretch.
 fn goes_on(stretch: &Stretch<'_>, direction: Direction) -> bool
     ensures { IsTrue result ↔ IsWithin direction (far_wall direction stretch.now) }
 {
@@ -84,10 +84,10 @@ impl CrontabJob {
 
     /// The first start after a time.
     ///
-    /// `None` where none is left in the searched years, which end where the clock first shows year 5000.
+    /// `None` where none is left in the searched years, which end when the clock first shows year 5000.
     ///
-    /// In Paris the clock skips half past two on 2027-03-28, and cron starts the job at three, at 01:00 UTC; `paris` is the
-    /// table of its clock.
+    /// On 2027-03-28 the clock in Paris skips half past two, and cron starts the job at three, which is 01:00 UTC. `paris`
+    /// is the table of that clock.
     ///
     /// ```
     /// let job = CrontabJob { cron: Cron::from_str(alloc, "30 2 * * *")?, is_starred: false };
@@ -122,9 +122,9 @@ impl CrontabJob {
         None
     }
 
-    /// The last start up to a time, which counts itself.
+    /// The last start up to and including a time.
     ///
-    /// `None` where none is left in the searched years, which begin where the clock has last shown year 1.
+    /// `None` where none is left in the searched years, which begin when the clock last shows year 1.
     ///
     /// ```
     /// let job = CrontabJob { cron: Cron::from_str(alloc, "30 2 * * *")?, is_starred: false };

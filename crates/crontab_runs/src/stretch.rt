@@ -8,16 +8,16 @@ ghost use Rattle.crontab_runs.specs.Private.Parts.{least_behind};
 use crate::minutes::minute_of;
 use croner::time::table::ClockTable;
 
-/// So many seconds from 1970 no table has an instant.
+/// No table has an instant this many seconds from 1970.
 const FAR_SECONDS: i64 = 1_000_000_000_000;
 
-/// A stretch of the clock of a table in which it doesn't change, between two changes, or before or behind all of them.
+/// A stretch of a table's clock in which it doesn't change: between two changes, or before or after all of them.
 #[derive(Clone, Copy)]
 pub(crate) struct Stretch<'t> {
     pub(crate) table: &'t ClockTable,
-    /// Its first second, at which the clock changes; of the first stretch a second before all instants.
+    /// Its first second, at which the clock changes; for the first stretch, a second before all instants.
     pub(crate) begin: i64,
-    /// The second behind its last.
+    /// The second after its last.
     pub(crate) end: i64,
     /// How many seconds the clock is ahead of UTC in it.
     pub(crate) offset: i64,
@@ -27,7 +27,7 @@ pub(crate) struct Stretch<'t> {
 }
 
 impl<'t> Stretch<'t> {
-    /// The stretch behind so many changes.
+    /// The stretch after so many changes.
 
     pub(crate) fn behind(table: &'t ClockTable, changes: usize) -> Stretch<'t>
         requires { changes ≤ length table.now.changes.items }
@@ -46,7 +46,7 @@ impl<'t> Stretch<'t> {
         }
     }
 
-    /// The least minute that something can be started for from its first second on.
+    /// The least minute for which anything can be started from its first second on.
     pub(crate) fn least_behind(&self) -> i64
         ensures { result ≡ least_behind self.now.begin self.now.offset self.now.before }
     {
@@ -54,7 +54,7 @@ impl<'t> Stretch<'t> {
     }
 }
 
-// The first second of the stretch behind so many changes.
+// The first second of the stretch after so many changes.
 fn begin_of(table: &ClockTable, changes: usize) -> i64
     requires { changes ≤ length table.now.changes.items }
     ensures { result ≡ first_second table.now.changes.items changes }
@@ -66,7 +66,7 @@ fn begin_of(table: &ClockTable, changes: usize) -> i64
     }
 }
 
-// The second behind its last.
+// The second after its last.
 fn end_of(table: &ClockTable, changes: usize) -> i64
     requires { changes ≤ length table.now.changes.items }
     ensures { result ≡ second_behind table.now.changes.items changes }

@@ -1,4 +1,4 @@
-//! What a line asks, and its answer.
+//! The question of a line, and its answer.
 
 use crate::compare::{Clocks, compare, runs_of_table};
 use crate::runs::Asked;

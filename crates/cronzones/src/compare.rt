@@ -1,4 +1,4 @@
-//! Runs over the table of a window beside those in the zone itself.
+//! Runs over the table of a window, compared with those in the zone itself.
 
 use crate::runs::Asked;
 use crate::window::Window;
@@ -43,8 +43,8 @@ impl Tally {
     }
 }
 
-/// Asks each of a list in both directions, over the table and in the zone: how many runs the zone has that lie well in
-/// the window, and each difference, as the place in the list, the direction and both lists of runs.
+/// Asks each question of a list in both directions, over the table and in the zone. Gives how many runs of the zone
+/// lie well in the window, and each difference: the place in the list, the direction and both lists of runs.
 pub fn compare(alloc: Global, list: &Value, clocks: Clocks<'_>) -> Result<Value, Fault> {
     let mut tally = Tally {
         runs: 0,

@@ -1,6 +1,6 @@
-//! `cronzones`: holds tables of real zones against the zones. Each line of standard input names a zone, a window and
-//! what is asked there, as JSON. A line whose answer is not the one that is wanted is printed, and one that wants none
-//! with its answer; a summary comes last.
+//! `cronzones`: compares tables of real zones with the zones. Each line of standard input names a zone, a window and a
+//! question, as JSON. A line whose answer isn't the wanted one is printed, and one that wants none is printed with its
+//! answer; a summary comes last.
 #![tactic(auto)]
 
 mod answer;

@@ -11,7 +11,7 @@ use std::alloc::Global;
 pub enum Kind {
     /// One search.
     Search { inclusive: bool },
-    /// So many items of an iterator.
+    /// A number of items of an iterator.
     Listing { count: i64 },
 }
 
@@ -24,7 +24,7 @@ pub struct Asked {
 }
 
 impl Asked {
-    /// Reads `[TEXT, START, KIND]`, where a kind is whether the start counts, or how many items are wanted.
+    /// Reads `[TEXT, START, KIND]`. KIND is whether the start counts, or how many items are wanted.
     pub fn read(alloc: Global, value: &Value) -> Result<Asked, Fault> {
         let [pattern, start, kind] = items(value)? else {
             return Err(Fault::Malformed);
@@ -34,7 +34,7 @@ impl Asked {
         Ok(Asked { job, start, kind })
     }
 
-    /// The runs from a time on, nearest first. None where a search answers the limit.
+    /// The runs from a time on, nearest first; empty where a search reaches the limit.
     pub fn runs<T: Moment>(
         &self,
         alloc: Global,

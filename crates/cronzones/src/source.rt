@@ -11,7 +11,7 @@ pub enum Source {
     Plain(TimeZone<'static>),
 }
 
-// By hand, so that a function that lets a source go calls this one: its proof doesn't go through a file at each exit.
+// By hand, so that a function that drops a source calls this one: its proof doesn't go through a file at each exit.
 impl Drop for Source {
     fn drop(self) {
         match self {

@@ -3,7 +3,7 @@
 use croner_rows::{Fault, number_at};
 use serde_json::Value;
 
-/// So many seconds behind a window's first one no earlier reading of the zone comes again.
+/// From this many seconds after a window's first one on, the clock shows nothing that it showed before the window.
 const MARGIN_SECONDS: i64 = 180_000;
 
 /// A window, in seconds since 1970-01-01T00:00:00 UTC.
@@ -21,7 +21,7 @@ impl Window {
         Ok(Window { first, last })
     }
 
-    /// Whether a second lies in the window, far enough behind its first one.
+    /// Whether a second lies well in the window: far enough after its first one.
     pub fn has_well_in(self, second: i64) -> bool {
         second <= self.last && second.saturating_sub(MARGIN_SECONDS) >= self.first
     }

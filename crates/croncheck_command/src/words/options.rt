@@ -62,10 +62,14 @@ pub(super) fn verbs_with(option: &str) -> Option<&'static str> {
         | "--quiet"
         | "--busy"
         | "--together"
+        | "--month"
         | "--ics"
+        | "--html"
+        | "--output"
         | "--lasts"
         | "--most-a-day" => Some("plan"),
-        "--json" | "--strict" | "--same-job" | "--allow" | "--ignore" => Some("check and show"),
+        "--json" => Some("check, show and plan"),
+        "--strict" | "--same-job" | "--allow" | "--ignore" => Some("check and show"),
         "--system" | "--user" | "--patterns" | "--stdin-name" | "--users" | "--root" => Some(
             "check, show and plan",
         ),
@@ -82,7 +86,10 @@ pub(super) fn verb_with(option: &str) -> &'static str {
         | "--quiet"
         | "--busy"
         | "--together"
+        | "--month"
         | "--ics"
+        | "--html"
+        | "--output"
         | "--lasts"
         | "--most-a-day" => "plan",
         _ => "show",

@@ -1,9 +1,9 @@
 //! What the words of a call ask of a plan, and the options for it.
 
 use super::options::{add, flag, value};
-use super::{NoCall, misused};
-use crate::planner::{FileAsked, PlanAsked};
+use super::{NoCall, Verb, misused};
 use clap::{Arg, ArgMatches, Command};
+use croncheck_planner::planner::{FileAsked, PlanAsked};
 use cronplan_forms::{Questions, Signs};
 use jiff_fmt::friendly::parse_unsigned_duration;
 use std::alloc::{AllocError, Global};
@@ -17,8 +17,12 @@ const ALL: &str = "all";
 /// The most moments that are asked for.
 const MOST_MOMENTS: usize = 1_000;
 
-/// What is asked of a plan. The signs of a picture are digits.
-pub(super) fn plan_asked(alloc: Global, matches: &ArgMatches<'_>) -> Result<PlanAsked, NoCall> {
+/// What is asked of a plan, with its verb; with another one nothing is. The signs of a picture are digits.
+pub(super) fn plan_asked(
+    alloc: Global,
+    verb: Verb,
+    matches: &ArgMatches<'_>,
+) -> Result<PlanAsked, NoCall> {
     let week = if matches.get_flag("week") {
         Some(Signs::Digits)
     } else {
@@ -29,25 +33,53 @@ pub(super) fn plan_asked(alloc: Global, matches: &ArgMatches<'_>) -> Result<Plan
         quiet: length(alloc, matches, "quiet", "--quiet <LENGTH>")?,
         busy: busy(alloc, matches)?,
         together: matches.get_flag("together"),
+        month: matches.get_flag("month"),
     };
     Ok(PlanAsked {
         has_commands: matches.get_flag("commands"),
         questions,
         most_a_day: most_a_day(alloc, matches)?,
-        file: file_asked(alloc, matches)?,
+        file: file_asked(alloc, verb, matches)?,
     })
 }
 
-// The file that is asked for.
-fn file_asked(alloc: Global, matches: &ArgMatches<'_>) -> Result<Option<FileAsked>, NoCall> {
+// The file that is asked for: another verb has an option --json of its own.
+fn file_asked(
+    alloc: Global,
+    verb: Verb,
+    matches: &ArgMatches<'_>,
+) -> Result<Option<FileAsked>, NoCall> {
+    match verb {
+        Verb::Plan => file_of_plan(alloc, matches),
+        Verb::Check | Verb::Show | Verb::Next | Verb::Describe => Ok(None),
+    }
+}
+
+fn file_of_plan(alloc: Global, matches: &ArgMatches<'_>) -> Result<Option<FileAsked>, NoCall> {
     if matches.get_flag("html") {
         return Ok(Some(FileAsked::Page));
     }
-    if !matches.get_flag("ics") {
-        return Ok(None);
+    if matches.get_flag("json") {
+        return Ok(Some(FileAsked::Json));
     }
-    let lasts = length(alloc, matches, "lasts", "--lasts <LENGTH>")?;
-    Ok(Some(FileAsked::Calendar(lasts)))
+    if matches.get_flag("ics") {
+        let lasts = length(alloc, matches, "lasts", "--lasts <LENGTH>")?;
+        return Ok(Some(FileAsked::Calendar(lasts)));
+    }
+    match output(matches) {
+        Some(name) => Err(misused(
+            alloc,
+            "--output <FILE>",
+            name,
+            "it goes with --html, --ics or --json",
+        )),
+        None => Ok(None),
+    }
+}
+
+/// The name of the file that a plan is written to, if one is given.
+pub(super) fn output<'w>(matches: &ArgMatches<'w>) -> Option<&'w str> {
+    matches.get_str("output")
 }
 
 // The seconds of a length that the word of an option says.
@@ -117,6 +149,14 @@ fn with_questions<'w>(alloc: Global, command: Command<'w>) -> Result<Command<'w>
     )?;
     let command = add(
         command,
+        flag(alloc, "month")
+            .help(
+                "In place of the list: a calendar's grid of titles; up to --until, else to the end of the month",
+            )
+            .conflicts_with("runs"),
+    )?;
+    let command = add(
+        command,
         value(alloc, "quiet", "LENGTH")
             .help(
                 "In place of the list: when nothing starts for so long, as 45m or 8h, the longest first",
@@ -149,12 +189,16 @@ fn with_questions<'w>(alloc: Global, command: Command<'w>) -> Result<Command<'w>
 fn with_files<'w>(alloc: Global, command: Command<'w>) -> Result<Command<'w>, AllocError> {
     let command = add(command, calendar(alloc))?;
     let command = add(command, page(alloc))?;
-    add(
+    let command = add(command, json(alloc))?;
+    let command = add(
         command,
         value(alloc, "lasts", "LENGTH")
             .help("With --ics: how long each event lasts, as 30m; else they tell no end")
             .requires_arg("ics"),
-    )
+    )?;
+    command.arg(value(alloc, "output", "FILE").help(
+        "With --html, --ics or --json: writes it to this file, whole or not at all, and not to the output",
+    ))
 }
 
 fn calendar<'w>(alloc: Global) -> Result<Arg<'w>, AllocError> {
@@ -171,10 +215,18 @@ fn page<'w>(alloc: Global) -> Result<Arg<'w>, AllocError> {
     alone(arg)?.conflicts_with("ics")
 }
 
+fn json<'w>(alloc: Global) -> Result<Arg<'w>, AllocError> {
+    let arg = flag(alloc, "json").help(
+        "In place of the list: one object with the jobs, the moments, the quiet windows and the counts",
+    );
+    alone(arg)?.conflicts_with("ics")?.conflicts_with("html")
+}
+
 // An option that stands with none of the answers that are texts.
 fn alone<'w>(arg: Arg<'w>) -> Result<Arg<'w>, AllocError> {
     arg.conflicts_with("runs")?
         .conflicts_with("week")?
+        .conflicts_with("month")?
         .conflicts_with("quiet")?
         .conflicts_with("busy")?
         .conflicts_with("together")

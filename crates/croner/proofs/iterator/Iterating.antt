@@ -1,5 +1,5 @@
 -- What a call of an iterator's `next` does, from the search that it makes.
-use Rattle.std.proofs.Common.{◌≡◌, IsTrue, Bool, Option, Some, None, Result, Ok, Err, IfOk, IfErr, sym, subst, inl, inr, ap, ◌∙◌, refl}
+use Rattle.std.proofs.Common.{IsTrue, Bool, Option, Some, None, Result, Ok, Err, IfOk, IfErr, sym, subst, inl, inr, ap, ◌∙◌, refl}
 use Rattle.croner_base.specs.Zone.{Moment}
 use Rattle.croner_base.specs.declared.errors.CronError.{CronError}
 use Rattle.croner_base.specs.declared.errors.CronError.TheVariants.{OutOfMemory}

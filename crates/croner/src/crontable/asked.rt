@@ -1,4 +1,4 @@
-//! The search of a table's jobs from a position of an iterator: only those that wait are searched.
+//! The search of a table's jobs from an iterator's position. Only the jobs that wait are searched.
 ghost use Rattle.std.specs.Prelude.{◌≡◌, Ok, Some, None, IfOk, OnOk, IfErr, IfSome};
 ghost use Rattle.std.specs.BinaryHeap.{heap_items};
 ghost use Rattle.croner.specs.crontable.Tables.{patterns_of, IsTableFound, IsTableRefused};
@@ -10,8 +10,8 @@ use croner_base::errors::CronError;
 use croner_base::time::{CronDateTime, Direction};
 
 /// The nearest run of all jobs from the position, and its item: a copy with its places, as a search of the table finds it. All
-/// that stand there wait from then on, and the other runs that are kept lie ahead of it. Where the item is refused, the run is
-/// held: then the next search is of no job, and tells of this run.
+/// jobs that run then wait from then on, and the other kept runs are ahead of it. Where the item can't be made, the run is
+/// held: the next search then searches no job, and answers with this run.
 pub(super) fn search<T: CronDateTime>(
     table: &CronTable,
     kept: &mut Kept<T>,
@@ -46,7 +46,7 @@ pub(super) fn search<T: CronDateTime>(
     }
 }
 
-// The run that is held, else the nearest that the jobs have from the position; the places that wait are its own from then on.
+// The held run, or else the nearest run of the jobs from the position. From then on the places that wait are those of this run.
 fn nearest<T: CronDateTime>(
     table: &CronTable,
     kept: &mut Kept<T>,
@@ -70,7 +70,7 @@ fn nearest<T: CronDateTime>(
     }
 }
 
-// Takes the nearest run that the jobs have from the position, once those that wait are searched; its places wait from then on.
+// Takes the nearest run of the jobs from the position, after the jobs that wait have been searched. From then on its places wait.
 fn take_nearest<T: CronDateTime>(
     table: &CronTable,
     kept: &mut Kept<T>,

@@ -1,9 +1,9 @@
-//! A run that a job of a table has ahead of an iterator, and the order in which they come.
+//! A run of one of a table's jobs that is ahead of an iterator, and the order of such runs.
 
 use croner_base::time::{CronDateTime, Direction};
 use std::cmp::Ordering;
 
-/// The run that the search of the job at a place found in a direction.
+/// The run that a search in a direction found for the job at a place.
 #[derive(Debug, Drop)]
 pub(super) struct Due<T> {
     pub(super) run: T,
@@ -46,7 +46,7 @@ impl<T: CronDateTime> PartialOrd for Due<T> {
     }
 }
 
-/// The nearer run in the direction is the greater, and of two at one instant that of the lower place.
+/// The nearer run in the direction is the greater; of two at one instant, that of the lower place.
 impl<T: CronDateTime> Ord for Due<T> {
     ghost use Rattle.std.proofs.Common.{rules};
     ghost use Rattle.std.specs.Cmp.Rules.{comparing};

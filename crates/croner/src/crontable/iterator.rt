@@ -18,11 +18,11 @@ use std::alloc::AllocError;
 /// The runs of a table's jobs from a start, in one direction: instants at which some job runs, each with the places of all jobs
 /// that run then, ascending.
 ///
-/// It borrows the table. Each item's instant is the position from which the next search starts. A call of `next` that gives no
-/// item leaves the iterator where it stands, so a later call can go on; `fault` says why it gave none where the end of the
-/// searched years is not the reason. In a calm zone ([`CronDateTime`] says when a zone is calm) and from a whole second the items
-/// are these instants in order, each once and none left out between them, over whatever backend; and no item and no fault says
-/// that no run of any job is left in the searched years.
+/// It borrows the table. Each item's instant is the position from which the next search starts. A call of `next` without an item
+/// leaves the iterator where it is, so a later call can go on; `fault` then says why, unless the searched years have ended. In a
+/// calm zone ([`CronDateTime`] says when a zone is calm) and from a whole second the items are these instants in order, each
+/// once, with none left out between them, over any backend. No item and no fault then means that no run of any job is left in the
+/// searched years.
 #[derive(Debug, Drop)]
 pub struct CronTableIterator<'t, T: CronDateTime> {
     table: &'t CronTable,
@@ -48,7 +48,7 @@ impl<'t, T: CronDateTime> CronTableIterator<'t, T> {
     ghost use Rattle.croner.specs.crontable.Tables.{IsTableFound, IsTableRefused};
     ghost use Rattle.croner.specs.Private.crontable.Kept.{LeadsTo, LieAhead};
 
-    // An iterator from a start: it counts the start where it is inclusive and some job runs there.
+    // An iterator from a start, which is an item itself if the iterator is inclusive and some job runs then.
     pub(crate) fn new(
         table: &'t CronTable,
         start: T,
@@ -68,8 +68,8 @@ impl<'t, T: CronDateTime> CronTableIterator<'t, T> {
         }
     }
 
-    /// The error, other than the limit, that ended the last call of `next`; none where that call gave an item or came to the
-    /// limit, and none before the first call.
+    /// The error, other than the limit, that ended the last call of `next`. `None` where that call gave an item or reached
+    /// the limit, and before the first call.
     ///
     /// ```
     /// let mut table = CronTable::new(alloc);
@@ -84,7 +84,7 @@ impl<'t, T: CronDateTime> CronTableIterator<'t, T> {
         self.fault.as_ref()
     }
 
-    // The way in which it goes.
+    // The direction in which it goes.
     pub(crate) fn direction(&self) -> Direction
         ensures { result ≡ (table_standing_of T.moment self.now).direction }
     {
@@ -98,8 +98,8 @@ impl<'t, T: CronDateTime> CronTableIterator<'t, T> {
         self.is_first && self.inclusive
     }
 
-    // What the next search answers: a run, and its item. What is kept of the jobs stays so, and a run that was taken is held until
-    // its item is given.
+    // The answer of the next search: a run, and its item. What is kept of the jobs remains true, and a run that was taken is held
+    // until its item is given.
     fn find(&mut self) -> Result<(T, (T, Vec<usize>)), CronError>
         ensures same { table_standing_of T.moment self.new ≡ table_standing_of T.moment self.old }
         ensures found { IfOk result (λ r. IsTableFound self.old.direction (counts_table_position (table_standing_of T.moment self.old))
@@ -125,8 +125,8 @@ impl<'t, T: CronDateTime> CronTableIterator<'t, T> {
         )
     }
 
-    // Whether what is kept is so from an item on: not behind a start, which may have a fraction, nor where the item lies outside
-    // the searched years.
+    // Whether what is kept remains true from an item on: not after a start, which may have a fraction, nor where the item is
+    // outside the searched years.
     fn keeps_over(&self, item: &T) -> bool
         ensures moved { IsTrue result → self.now.is_first ≡ false }
         ensures within { IsTrue result → IsWithin self.now.direction (reading (T.moment item.now)) }
@@ -134,7 +134,7 @@ impl<'t, T: CronDateTime> CronTableIterator<'t, T> {
         !self.is_first && is_within(item.to_civil(), self.direction)
     }
 
-    // Stands at the run that was found from now on.
+    // Makes the run that was found the position.
     fn step_to(&mut self, run: T)
         requires leads { LeadsTo self.old.direction (T.moment self.old.position) (T.moment run) }
         requires ahead { LieAhead T.moment self.old.direction (T.moment run) (heap_items self.old.kept.dues) }
@@ -149,8 +149,8 @@ impl<'t, T: CronDateTime> CronTableIterator<'t, T> {
     }
 }
 
-/// A copy stands where the original stands, over the same table, and gives the same runs from there; its first search is of all
-/// jobs. The only error is want of memory.
+/// A copy has the same position over the same table, and gives the same runs from there; its first search is of all jobs. The
+/// only error is lack of memory.
 impl<'t, T: CronDateTime> Clone for CronTableIterator<'t, T> {
     ghost use Rattle.croner.specs.crontable.TableListing.{table_standing_of};
 

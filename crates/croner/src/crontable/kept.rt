@@ -1,4 +1,4 @@
-//! What an iterator over a table keeps of the searches of its jobs, from one item to the next.
+//! What an iterator over a table keeps of its jobs' searches from one item to the next.
 ghost use Rattle.std.specs.Prelude.{◌≡◌, ◌⊎◌, ◌<◌, ◌≤◌, ◌+◌, true, false, [], ◌∷◌, IsPermutation, vec_len, vec_capacity, IfOk, IfErr, OnOk, IfSome, OnSome, IfNone, Some, None, IsTrue, slice_index_or, ℕ};
 ghost use Rattle.std.specs.BinaryHeap.{IsHeap, heap_items, heap_len};
 ghost use Rattle.std.specs.List.{All, sum_by};
@@ -20,9 +20,9 @@ use croner_base::time::{CivilDateTime, CronDateTime, Direction};
 use std::alloc::Global;
 use std::collections::BinaryHeap;
 
-/// The runs that the searches found, the nearest first; the places of the jobs that are to be searched, which wait; the run that
-/// was taken, until the item of it and of the places that wait is given; and whether a search came to the limit: its job has no
-/// run left, and is searched no more. Before it is begun, nothing is kept.
+/// The runs that the searches found, the nearest first, and the places of the jobs that wait to be searched. Also the run
+/// that was taken, until the item made of it and of these places is given; and whether a search reached the limit: its job
+/// has no run left, and isn't searched again. Before `begin` nothing is kept.
 #[derive(Debug, Drop)]
 pub(super) struct Kept<T: CronDateTime> {
     pub(super) dues: BinaryHeap<Due<T>, Global>,
@@ -47,7 +47,7 @@ impl<T: CronDateTime> Kept<T> {
         }
     }
 
-    /// Lets go what is kept, unless it is to stay: then all jobs are to be searched.
+    /// Drops what is kept unless it is to stay; after that all jobs are to be searched.
     pub(super) fn let_go_unless(&mut self, stays: bool)
         ensures stays { stays ≡ true → self.new ≡ self.old }
         ensures nothing { stays ≡ false → self.new.is_begun ≡ false }
@@ -57,8 +57,8 @@ impl<T: CronDateTime> Kept<T> {
         }
     }
 
-    /// Where nothing is kept, so many jobs wait from then on, and no run is held. There is room for their runs and places; the only
-    /// error is `OutOfMemory`, and then nothing is kept.
+    /// Where nothing is kept, makes so many jobs wait, with no run held, and with room for their runs and places. The only error is
+    /// `OutOfMemory`; then nothing is kept.
     pub(super) fn begin(&mut self, alloc: Global, jobs: usize) -> Result<(), CronError>
         ensures kept { self.old.is_begun ≡ true → self.new ≡ self.old }
         ensures begun { OnOk result (self.new.is_begun ≡ true) }
@@ -97,8 +97,8 @@ impl<T: CronDateTime> Kept<T> {
         Ok(())
     }
 
-    /// Searches the job that waits last from a position, of which `shown` is the reading. A run that it finds is kept in its place;
-    /// a job that is refused by anything but the limit waits on.
+    /// Searches the last of the waiting jobs from a position, whose reading is `shown`. A run that it finds is kept, and the job no
+    /// longer waits; a job whose search fails by anything but the limit goes on waiting.
     pub(super) fn ask(
         &mut self,
         table: &CronTable,
@@ -141,7 +141,7 @@ impl<T: CronDateTime> Kept<T> {
         }
     }
 
-    /// Searches all jobs that wait, as `ask`, until one is refused.
+    /// Searches all waiting jobs, as `ask` does, until one search fails.
     pub(super) fn ask_all(
         &mut self,
         table: &CronTable,
@@ -185,7 +185,7 @@ impl<T: CronDateTime> Kept<T> {
         }
     }
 
-    /// Whether the first of the runs stands at the instant of one that was taken.
+    /// Whether the first of the runs is at the instant of one that was taken.
     pub(super) fn is_tied(&self, run: &T) -> bool
         ensures some { IsTrue result → 0 < heap_len self.now.dues }
         ensures tied { IsTrue result → (due : Due T) → nanos_of (T.moment (slice_index_or (heap_items self.now.dues) 0 due).run) ≡ nanos_of (T.moment run.now) }
@@ -197,7 +197,7 @@ impl<T: CronDateTime> Kept<T> {
         }
     }
 
-    /// The item of a run that was taken: a copy with the places that wait, as it is decided. Nothing changes.
+    /// The item of a run that was taken: a copy with the places that wait, or the limit, as `decide` has it. Nothing changes.
     pub(super) fn item(
         &self,
         run: &T,

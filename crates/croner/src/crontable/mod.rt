@@ -1,4 +1,4 @@
-//! Many patterns at once: the next moment at which any of them runs, and which ones run then.
+//! Many patterns at once: the next moment at which any of them runs, and which of them run then.
 ghost use Rattle.std.specs.Prelude.{◌≡◌, true};
 ghost use Rattle.croner.specs.Views.{job_of};
 
@@ -18,10 +18,10 @@ use std::{mem, slice};
 
 /// A list of jobs that is searched as one.
 ///
-/// A job's place is the number of jobs that stand before it, from 0. Equal jobs may stand more than once, and each has its own
-/// place. The table keeps the allocator that its maker took.
+/// A job's place is its index, from 0. A table may have equal jobs, each at its own place. The table keeps the allocator given
+/// to its constructor.
 ///
-/// `push` alone asks for memory: `replace`, `remove` and `clear` take none, and keep the room that there is.
+/// Of the calls that change it only `push` takes memory; `replace`, `remove` and `clear` take none, and keep the memory that there is.
 #[derive(Debug, Drop)]
 pub struct CronTable {
     jobs: Vec<Cron>,
@@ -54,9 +54,9 @@ impl CronTable {
         }
     }
 
-    /// Puts a job behind the others, and answers its place.
+    /// Appends a job, and returns its place.
     ///
-    /// The only error is `OutOfMemory`: the table is then as it was, and the job is dropped.
+    /// The only error is `OutOfMemory`: the table is then unchanged, and the job is dropped.
     ///
     /// ```
     /// let mut table = CronTable::new(alloc);
@@ -75,10 +75,10 @@ impl CronTable {
         Ok(place)
     }
 
-    /// Puts a job in the place of another, and answers that other one. `None` where there is no such place: the table is then
-    /// as it was, and the job is dropped.
+    /// Replaces the job at a place, and returns the old one. `None` where there is no such place: the table is then
+    /// unchanged, and the new job is dropped.
     ///
-    /// All other jobs stay at their places. Takes no memory, and the same time however many jobs there are.
+    /// All other jobs keep their places. Takes no memory, and the same time however many jobs there are.
     ///
     /// ```
     /// let mut table = CronTable::new(alloc);
@@ -99,10 +99,10 @@ impl CronTable {
         }
     }
 
-    /// Takes a job out of the table, and answers it. `None` where there is no such place: the table is then as it was.
+    /// Removes a job from the table, and returns it. `None` where there is no such place: the table is then unchanged.
     ///
-    /// The jobs behind it move up, each to the place before its own; those before it stay. Takes no memory; its time grows with
-    /// the number of jobs behind the place.
+    /// The jobs after it move up by one place; those before it stay. Takes no memory; its time grows with the number of jobs
+    /// after the place.
     ///
     /// ```
     /// let mut table = CronTable::new(alloc);
@@ -199,24 +199,23 @@ impl CronTable {
         &self.jobs[place]
     }
 
-    /// The next run of any job after a time, or from it on where the search is inclusive, in the time's zone, and the places
-    /// of all jobs that run then, ascending.
+    /// The next run of any job after a time, or from it on if the search is inclusive, in the time's zone, and the places of
+    /// all jobs that run then, ascending.
     ///
-    /// Which instants are runs of a job, and which of them count, is said at
-    /// [`Cron::find_next_occurrence`](crate::Cron::find_next_occurrence), and when a zone is calm at [`CronDateTime`]. In a calm
-    /// zone and from a whole second the answer is the nearest instant at which a run of some job counts, with exactly the places
-    /// of the jobs whose runs count there, over whatever backend. In every zone and from every start it is a whole second of the
-    /// start's zone, with one place or more.
+    /// [`Cron::find_next_occurrence`](crate::Cron::find_next_occurrence) says which instants are runs of a job, and which of
+    /// them count; [`CronDateTime`] says when a zone is calm. In a calm zone and from a whole second, over any backend, the
+    /// answer is the nearest instant at which a run of some job counts, with exactly the places of the jobs whose runs count
+    /// then. In every zone and from every start it is a whole second in the start's zone, with at least one place.
     ///
-    /// It is refused by
+    /// Errors:
     /// - `TimeSearchLimitExceeded`: in a calm zone and from a whole second no run of any job is left in the searched years, which
-    ///   end where the zone's clock first shows year 5000. Where one job's search comes to that limit, a run of another job from
-    ///   then on is not given, since an unseen run might be nearer. A table without jobs always gets it.
-    /// - `OutOfMemory`: there is no memory for the places, which is asked for first, or the backend lacks memory.
-    /// - `InvalidDate` or `InvalidTime`, as the backend has it: a moment that had to be asked for is not held. Neither comes in a
-    ///   calm zone from a whole second where the years 0 to 5001 and two days around the start are held.
+    ///   end when the zone's clock first shows year 5000. If one job's search reaches that limit, a run of another job after it
+    ///   isn't given, since an unseen run might be nearer. A table without jobs always gives this error.
+    /// - `OutOfMemory`: there is no memory for the places, which is taken first, or the backend lacks memory.
+    /// - `InvalidDate` or `InvalidTime`, by the backend: it doesn't hold a moment that the search needs. Neither occurs in a calm
+    ///   zone from a whole second if the years 0 to 5001 and two days around the start are held.
     ///
-    /// Of several errors other than the limit that of the first job is answered. Nothing is changed by a search.
+    /// Of several errors other than the limit, that of the first job is returned. A search changes nothing.
     ///
     /// ```
     /// let mut table = CronTable::new(alloc);
@@ -237,9 +236,9 @@ impl CronTable {
         self.find_occurrence(start, inclusive, Direction::Forward)
     }
 
-    /// The previous run of any job before a time, or from it back where the search is inclusive: as
-    /// [`find_next_occurrence`](Self::find_next_occurrence), the other way. The searched years begin there where the zone's clock has
-    /// last shown year 1.
+    /// The previous run of any job before a time, or from it back if the search is inclusive: as
+    /// [`find_next_occurrence`](Self::find_next_occurrence), in the other direction. The searched years begin when the zone's clock
+    /// last shows year 1.
     ///
     /// ```
     /// let mut table = CronTable::new(alloc);
@@ -260,7 +259,7 @@ impl CronTable {
         self.find_occurrence(start, inclusive, Direction::Backward)
     }
 
-    // The nearest run in a direction. A table without jobs has none, and asks for no memory.
+    // The nearest run in a direction. A table without jobs has none, and takes no memory.
     fn find_occurrence<T: CronDateTime>(
         &self,
         start: &T,
@@ -277,8 +276,7 @@ impl CronTable {
         self.search_jobs(start, inclusive, direction)
     }
 
-    // Takes room for as many places as there are jobs, and searches in it. Only the request for that room lacks memory where the
-    // backend can't.
+    // Takes memory for as many places as there are jobs, and searches. Only this can lack memory if the backend can't.
     #[tactic(auto, using(crate::proofs::crontable::TableSearch::room_refusals))]
     fn search_jobs<T: CronDateTime>(
         &self,
@@ -295,8 +293,7 @@ impl CronTable {
         self.search_in_room(met, start, inclusive, direction)
     }
 
-    // Each job is searched in its turn, from a start that is read once, and the nearest answers are kept in the room that there
-    // is for them.
+    // Searches each job in turn, from a start that is read once, and keeps the nearest answers in the memory taken for them.
     fn search_in_room<T: CronDateTime>(
         &self,
         mut met: Met<T>,
@@ -320,7 +317,7 @@ impl CronTable {
         met.decide(self.alloc, direction)
     }
 
-    /// The runs of all jobs from a start on in a direction, each instant with the places of the jobs that run then. The start
+    /// The runs of all jobs from a start in a direction, each instant with the places of the jobs that run then. The start
     /// counts as in an inclusive search. Takes no memory; the iterator borrows the table.
     ///
     /// ```
@@ -364,7 +361,7 @@ impl CronTable {
     }
 }
 
-/// A copy has the same jobs at the same places. The only error is want of memory.
+/// A copy has the same jobs at the same places. The only error is lack of memory.
 impl Clone for CronTable {
     ghost use Rattle.croner.specs.crontable.Tables.{patterns_of};
 

@@ -1,4 +1,4 @@
-//! The nearest of the answers that the searches of a table's jobs give, in the order of their places.
+//! The nearest of the answers that the searches of a table's jobs give in turn.
 ghost use Rattle.std.specs.Prelude.{◌≡◌, Some, ◌<◌, ◌≤◌, ◌+◌, IfOk, IfErr, vec_len, vec_capacity};
 
 use crate::search::fold::is_in_span;
@@ -7,7 +7,7 @@ use croner_base::time::{CronDateTime, Direction};
 use std::alloc::Global;
 use std::cmp::Ordering;
 
-/// What the searches have answered so far: the nearest run, the places that answered it, and whether one answered the limit.
+/// The answers so far: the nearest run, the places whose searches gave it, and whether one reached the limit.
 #[derive(Drop)]
 pub(super) struct Met<T> {
     nearest: Option<T>,
@@ -18,7 +18,7 @@ pub(super) struct Met<T> {
 impl<T> Met<T> {
     ghost use Rattle.croner.specs.Private.crontable.Met.{met_of, new_met};
 
-    /// Nothing yet, with room for so many places; the only error is `OutOfMemory`.
+    /// No answer yet, with room for so many places; the only error is `OutOfMemory`.
     pub(super) fn new(alloc: Global, places: usize) -> Result<Met<T>, CronError>
         ensures ok { IfOk result (λ met. met_of met ≡ new_met) }
         ensures empty { IfOk result (λ met. vec_len met.places ≡ 0) }
@@ -33,7 +33,7 @@ impl<T> Met<T> {
         })
     }
 
-    /// A run with all places that stand there.
+    /// A run, with the places of all jobs that run then.
     pub(super) fn found(run: T, places: Vec<usize>, is_limited: bool) -> Met<T>
         ensures { result ≡ record { nearest = Some run; places = places; is_limited = is_limited } }
     {
@@ -48,7 +48,7 @@ impl<T> Met<T> {
 impl<T: CronDateTime> Met<T> {
     ghost use Rattle.croner.specs.Private.crontable.Met.{met_of, TakesIn, Decides, IsOrdered};
 
-    // How an answer lies to the nearest one so far: `Less` where it comes before it in the direction, or is the first.
+    // How an answer compares with the nearest one so far: `Less` if it comes before it in the direction, or is the first.
     fn order_of(&self, found: &T, direction: Direction) -> Ordering
         ensures { IsOrdered T.moment direction found.now self.now.nearest result }
     {
@@ -61,8 +61,8 @@ impl<T: CronDateTime> Met<T> {
         }
     }
 
-    /// Takes in what the search of the job at a place answered. A nearer run replaces what was met, an equal one appends its
-    /// place, and the limit is remembered; any other error is the answer at once.
+    /// Takes the answer of the search of the job at a place. A nearer run replaces the earlier ones, an equal one adds its
+    /// place, and the limit is remembered; any other error is returned at once.
     pub(super) fn take(
         &mut self,
         place: usize,
@@ -94,9 +94,9 @@ impl<T: CronDateTime> Met<T> {
         Ok(())
     }
 
-    /// The answer of all together: the limit where no job has a run, or where one answered the limit and the nearest run lies
-    /// outside the span, so that an unseen one might be nearer; else the nearest run with its places. Whether it lies in the span
-    /// is asked only where the limit was answered.
+    /// The answer of all searches together: the nearest run with its places, or the limit. It is the limit if no job has a run,
+    /// or if one search reached the limit and the nearest run is outside the span, since an unseen run might be nearer. Whether
+    /// it is in the span is asked only if a search reached the limit.
     pub(super) fn decide(
         self,
         alloc: Global,

@@ -1,5 +1,5 @@
-//! Equality, order and hash of iterators, where the type of their times has them: by the pattern, the position, the first
-//! mark, the inclusive mark and the direction. The kept fault has no part in them.
+//! Equality, order and hash of iterators, if the type of their times has them: by the pattern, the position, the two
+//! marks (first, inclusive) and the direction. The kept fault has no part in them.
 
 use super::CronIterator;
 use std::cmp::Ordering;

@@ -1,6 +1,6 @@
 //! Laws of iterators over tables of patterns.
 //!
-//! When a zone is calm is said at [`CronDateTime`].
+//! [`CronDateTime`] says when a zone is calm.
 ghost use Rattle.std.specs.Prelude.{◌≡◌, ◌≤◌, ◌<◌, ◌+◌, ◌↔◌, ℕ, ℤ, true, false, IfOk, IfErr, IsTrue, length, vec_len, vec_capacity};
 ghost use Rattle.croner_base.specs.TableZone.{table_moment};
 ghost use Rattle.croner.specs.iterator.Faults.{IsMemoryAlone};
@@ -18,16 +18,16 @@ use croner_base::time::table::TableTime;
 use croner_base::time::{CronDateTime, Direction};
 use std::alloc::Global;
 
-/// The items of so many calls of `next`, whatever calls without an item come between, and a mark that says that nothing is left:
-/// the last call gave none and kept no fault.
+/// The items of `calls` calls of `next`, with calls without an item among them or not, and a mark that nothing is left: whether
+/// the last call gave no item and kept no fault.
 ///
-/// The items and the mark are those of just so many calls, one after the other. In a calm zone and from a whole second, over
-/// whatever backend, the items begin the listing of what the iterator had yet to give, strictly in its direction, each with
-/// exactly the places that count at its instant, and the iterator goes on with the rest; where nothing is said to be left, they
-/// are all of it up to the end of the searched years. Where the backend holds what a search from the iterator's position needs,
-/// it holds what one from its new position needs, so that the only fault after any number of calls is want of memory, which the
-/// places of an item take over whatever backend. The only error is `OutOfMemory`, for the room of as many items as there are
-/// calls, which is taken first: the iterator then stands where it stood.
+/// The items and the mark are those of exactly that many calls, one after the other. In a calm zone and from a whole second,
+/// over any backend, the items are the first that the iterator had yet to give, strictly in order in its direction. Each has
+/// exactly the places that count at its instant. The iterator goes on with the rest; if the mark is true, there is no rest in
+/// the searched years. If the backend holds what a search from the iterator's position needs, it also holds what one from its
+/// new position needs. The only fault after any number of calls is then lack of memory; an item's places take memory over any
+/// backend. The only error is `OutOfMemory`, since memory for as many items as there are calls is taken first; the iterator is
+/// then unchanged.
 pub fn next_table_runs<T: CronDateTime>(
     alloc: Global,
     iterator: &mut CronTableIterator<'_, T>,
@@ -58,15 +58,15 @@ pub fn next_table_runs<T: CronDateTime>(
     Ok((runs, is_over))
 }
 
-/// The items that come no later in the iterator's direction than a second, where there is one, and so many at most; and how their
-/// listing ended. The iterator goes on the clock of a table of offsets, which is calm. The second is counted from
+/// The next items of an iterator: at most `most`, and none past the second `until` in its direction, if one is given; and how the
+/// listing ended. The iterator is on the clock of a table of offsets, which is calm. The second is counted from
 /// 1970-01-01T00:00:00 UTC.
 ///
-/// It is as [`next_runs_until`](crate::laws::listing::next_runs_until) of one pattern, each item with exactly the places that count
-/// at its instant; but the places of an item can lack memory, which then refuses the search. A run past the second was pulled out of
-/// the iterator, which goes on behind it; an iterator that is [`resumed_table`] from the last item gives it again.
+/// It is as [`next_runs_until`](crate::laws::listing::next_runs_until) for one pattern, each item with exactly the places that count
+/// at its instant. Here, however, a search also fails if there is no memory for an item's places. A run past the second was taken
+/// from the iterator, which goes on past it; an iterator [`resumed_table`] from the last item gives it again.
 ///
-/// The only error is `OutOfMemory`, for the room of `most` items, which is taken first: the iterator then stands where it stood.
+/// The only error is `OutOfMemory`, since memory for `most` items is taken first; the iterator is then unchanged.
 pub fn next_table_runs_until<'t>(
     alloc: Global,
     iterator: &mut CronTableIterator<'_, TableTime<'t>>,
@@ -89,10 +89,10 @@ pub fn next_table_runs_until<'t>(
     Ok((runs, ListingEnd::Full))
 }
 
-/// An iterator that goes on from an item, which it does not give again.
+/// An iterator that goes on from an item, without giving it again.
 ///
-/// Whatever iterator gave the item, over the same patterns and in the same direction: both have the same runs yet to give, each
-/// at the same places. So a listing can be taken up from any item that was kept.
+/// Whichever iterator over the same patterns and in the same direction gave the item, both have the same runs yet to give, each
+/// with the same places. So a listing can be resumed from any item that was kept.
 pub fn resumed_table<T: CronDateTime>(
     table: &CronTable,
     item: T,
@@ -105,7 +105,7 @@ pub fn resumed_table<T: CronDateTime>(
     CronTableIterator::new(table, item, false, direction)
 }
 
-// Puts the item of one call behind the others, or answers whether nothing is left.
+// Appends the item of one call to the others, or returns whether nothing is left.
 fn take_next<T: CronDateTime>(
     iterator: &mut CronTableIterator<'_, T>,
     runs: &mut Vec<(T, Vec<usize>)>,
@@ -124,7 +124,7 @@ fn take_next<T: CronDateTime>(
     }
 }
 
-// Puts the item of one call behind the others unless it lies past the second; or answers how the listing ends.
+// Appends the item of one call to the others unless it lies past the second; or returns how the listing ends.
 fn take_next_until<'t>(
     iterator: &mut CronTableIterator<'_, TableTime<'t>>,
     runs: &mut Vec<(TableTime<'t>, Vec<usize>)>,

@@ -18,8 +18,8 @@ use std::hash::{DefaultHasher, Hash, Hasher};
 
 /// Whether two jobs are equal, and the kind of each.
 ///
-/// Equal jobs differ in their texts at most. So they have the same schedule, also of the dates to which a run is carried, and are
-/// of the same kind: in every zone the same instants are their runs.
+/// Equal jobs differ at most in their texts. So they have the same schedule, also for the dates to which a run is carried, and
+/// the same kind: in every zone they run at the same instants.
 pub fn equal_and_kinds(one: &Cron, other: &Cron) -> (bool, JobType, JobType)
     ensures equal { IsTrue result.0 ↔ AreSameButTexts (job_of one.now) (job_of other.now) }
     ensures scheduled { IsTrue result.0 → (w : ℤ) → IsScheduled (job_of one.now) w ↔ IsScheduled (job_of other.now) w }
@@ -57,7 +57,7 @@ pub fn equal_and_described<L: Language>(
 
 /// Whether two jobs are equal, and how each compares with the other.
 ///
-/// `cmp` is `Equal` exactly where `==` holds, and one way round is the other one turned.
+/// `cmp` is `Equal` exactly where `==` holds, and swapping the two reverses it.
 pub fn equal_and_compared(one: &Cron, other: &Cron) -> (bool, Ordering, Ordering)
     ensures order { result.1 ≡ pattern_cmp one.now.pattern other.now.pattern }
     ensures equal { IsTrue result.0 ↔ (result.1 ≡ Ordering.Equal) }
@@ -68,7 +68,8 @@ pub fn equal_and_compared(one: &Cron, other: &Cron) -> (bool, Ordering, Ordering
 
 /// How three jobs compare: the first with the second, the second with the third, and the first with the third.
 ///
-/// The order is total: two steps that do not go down make one that does not, and it is level only where both are.
+/// The order is total. If the first is at most the second, and the second at most the third, the first is at most the third. It
+/// is equal to the third only if all three are equal.
 pub fn compared_in_turn(first: &Cron, second: &Cron, third: &Cron) -> (Ordering, Ordering, Ordering)
     ensures one { result.0 ≡ pattern_cmp first.now.pattern second.now.pattern }
     ensures two { result.1 ≡ pattern_cmp second.now.pattern third.now.pattern }
@@ -81,7 +82,7 @@ pub fn compared_in_turn(first: &Cron, second: &Cron, third: &Cron) -> (Ordering,
 
 /// Whether two jobs are equal, and what std's default hasher makes of each.
 ///
-/// Equal jobs feed every hasher the same, whatever their texts are.
+/// Equal jobs feed the same to every hasher, whatever their texts are.
 pub fn equal_and_hashed(one: &Cron, other: &Cron) -> (bool, u64, u64)
     ensures equal { IsTrue result.0 ↔ AreSameButTexts (job_of one.now) (job_of other.now) }
     ensures fed { IsTrue result.0 → pattern_writes one.now.pattern ≡ pattern_writes other.now.pattern }

@@ -9,15 +9,15 @@ ghost use Rattle.croner.specs.parser.Words.{AreWords, words};
 
 use crate::parser::{Seconds, Year};
 
-/// A text has at most one cut into names and single characters that leaves no letter but `L` and `W`, and where the
-/// reader finds none there is none.
+/// A text can be cut in at most one way into names and single characters, with no single letter but `L` and `W`.
+/// Where the reader finds no such way, there is none.
 pub fn a_text_has_one_cut(text: &str)
     ensures one { (pieces others : List Piece) → IsCut text.now pieces → IsCut text.now others → pieces ≡ others }
     ensures found { (pieces : List Piece) → cut_of text.now ≡ Some pieces → IsCut text.now pieces }
     ensures none { cut_of text.now ≡ None → (pieces : List Piece) → IsCut text.now pieces → ⊥ }
 {}
 
-/// A text has one list of words, its pieces between white space.
+/// A text has exactly one list of words: its pieces between white space.
 pub fn a_text_has_its_words(text: &str)
     ensures are { AreWords text.now (words text.now) }
     ensures alone { (others : List (List ℕ)) → AreWords text.now others → others ≡ words text.now }

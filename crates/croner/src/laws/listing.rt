@@ -1,6 +1,6 @@
-//! Laws of iterators, and of searches one after the other.
+//! Laws of iterators, and of successive searches.
 //!
-//! When a zone is calm is said at [`CronDateTime`].
+//! [`CronDateTime`] says when a zone is calm.
 ghost use Rattle.std.specs.Prelude.{◌≡◌, ◌≤◌, ◌<◌, ◌+◌, ◌↔◌, ◌⊎◌, ℤ, Bool, false, [], IfOk, IfErr, IsTrue, length, vec_len, vec_capacity};
 ghost use Rattle.croner_base.specs.TableZone.{table_moment};
 ghost use Rattle.std.specs.List.{All, AllPairs};
@@ -27,26 +27,26 @@ use std::cmp::Ordering;
 /// How a listing up to a second ended.
 #[derive(Debug, Clone, Copy, Drop)]
 pub enum ListingEnd {
-    /// There are as many items as were asked for at most. No call was made behind the last of them.
+    /// The listing has `most` items. No call was made after the last of them.
     Full,
-    /// The run behind the items lies past the second, at this one. The iterator has given it and goes on behind it.
+    /// The run after the items lies past the second, at this one. The iterator has given it, and goes on past it.
     Past(i64),
     /// No run is left in the searched years.
     Over,
-    /// A search was refused, and not by the end of the searched years: the iterator keeps the error.
+    /// A search failed, other than by the end of the searched years; the iterator keeps the error.
     Refused,
 }
 
-/// The items of so many calls of `next`, whatever calls without an item come between, and a mark: whether the last call gave none
-/// and kept no fault.
+/// The items of `calls` calls of `next`, with calls without an item among them or not, and a mark that nothing is left: whether
+/// the last call gave no item and kept no fault.
 ///
-/// The items and the mark are those of just so many calls, one after the other. In a calm zone and from a whole second, over
-/// whatever backend, the items begin the listing of what the iterator had yet to give, strictly in its direction, and the
-/// iterator goes on with the rest; where nothing is said to be left, they are all of it up to the end of the searched years.
-/// Over a backend that also holds what the search from the start needs, each later search finds held what it needs, so that the
-/// only fault after any number of calls is want of memory; where the backend cannot lack memory either, there is an item for each
-/// call, or they are all of it too. In every zone an item is a whole second of the start's zone. The only error is `OutOfMemory`,
-/// for the room of as many items as there are calls, which is taken first: the iterator then stands where it stood.
+/// The items and the mark are those of exactly that many calls, one after the other. In a calm zone and from a whole second, over
+/// any backend, the items are the first that the iterator had yet to give, strictly in order in its direction. The iterator goes
+/// on with the rest; if the mark is true, there is no rest in the searched years. If the backend also holds what the search from
+/// the start needs, it holds what each later search needs. The only fault after any number of calls is then lack of memory; if
+/// the backend can't lack memory either, there is an item for each call, or they are all that is left. In every zone an item is a
+/// whole second in the start's zone. The only error is `OutOfMemory`, since memory for as many items as there are calls is taken
+/// first; the iterator is then unchanged.
 pub fn next_runs<T: CronDateTime>(
     alloc: Global,
     iterator: &mut CronIterator<T>,
@@ -80,15 +80,15 @@ pub fn next_runs<T: CronDateTime>(
     Ok((runs, is_over))
 }
 
-/// The items that come no later in the iterator's direction than a second, where there is one, and so many at most; and how their
-/// listing ended. The iterator goes on the clock of a table, which is calm. The second is counted from 1970-01-01T00:00:00 UTC.
+/// The next items of an iterator: at most `most`, and none past the second `until` in its direction, if one is given; and how the
+/// listing ended. The iterator is on the clock of a table, which is calm. The second is counted from 1970-01-01T00:00:00 UTC.
 ///
-/// The items begin the listing of what the iterator had yet to give, and each is a whole second of its clock. Calls are made until
-/// there are `most` items, a run lies past the second, or a call gives none: so either none is left out up to the second, or there
-/// are `most`, or a search was refused, which none is from a start that the table holds enough around. A run past the second was
-/// pulled out of the iterator, which goes on behind it; an iterator that is [`resumed`] from the last item gives it again.
+/// The items are the first that the iterator had yet to give, and each is a whole second. Calls are made until there are `most`
+/// items, a run lies past the second, or a call gives none. So either none is left out up to the second, or there are `most`, or a
+/// search failed. No search fails from a start around which the table holds enough. A run past the second was taken from the
+/// iterator, which goes on past it; an iterator [`resumed`] from the last item gives it again.
 ///
-/// The only error is `OutOfMemory`, for the room of `most` items, which is taken first: the iterator then stands where it stood.
+/// The only error is `OutOfMemory`, since memory for `most` items is taken first; the iterator is then unchanged.
 pub fn next_runs_until<'t>(
     alloc: Global,
     iterator: &mut CronIterator<TableTime<'t>>,
@@ -110,10 +110,10 @@ pub fn next_runs_until<'t>(
     Ok((runs, ListingEnd::Full))
 }
 
-/// An iterator that goes on from an item, which it does not give again.
+/// An iterator that goes on from an item, without giving it again.
 ///
-/// Whatever iterator gave the item, for the same pattern and in the same direction: both have the same runs yet to give. So a
-/// listing can be taken up from any item that was kept.
+/// Whichever iterator for the same pattern and in the same direction gave the item, both have the same runs yet to give. So a
+/// listing can be resumed from any item that was kept.
 pub fn resumed<T: CronDateTime>(cron: Cron, item: T, direction: Direction) -> CronIterator<T>
     ensures stands { standing_of T.moment result ≡ new_standing (meaning_of cron.pattern) (T.moment item) false direction }
     ensures same_rest { (s : Standing) → s.pattern ≡ meaning_of cron.pattern → s.direction ≡ direction → (i : ℤ) →
@@ -122,12 +122,12 @@ pub fn resumed<T: CronDateTime>(cron: Cron, item: T, direction: Direction) -> Cr
     CronIterator::new(cron, item, false, direction)
 }
 
-/// The items of so many calls of `next`, and how each compares with the one before it, by `cmp_instant`.
+/// The items of `calls` calls of `next`, and how each compares with the one before it, by `cmp_instant`.
 ///
-/// In a calm zone and from a whole second the items of a forward iterator are strictly later one by one, and those of a backward
-/// one strictly earlier: as instants, and in the order of the values themselves. There are as many as in [`next_runs`], and a fault
-/// is kept for the same reasons. The only error is `OutOfMemory`, for the room of both lists, which is taken first: the iterator then
-/// stands where it stood.
+/// In a calm zone and from a whole second each item of a forward iterator is strictly later than the one before it; of a backward
+/// one, strictly earlier. That is so of the instants, and in the order of the values themselves. There are as many as in
+/// [`next_runs`], and a fault is kept for the same reasons. The only error is `OutOfMemory`, since memory for both lists is taken
+/// first; the iterator is then unchanged.
 pub fn items_in_order<T: CronDateTime>(
     alloc: Global,
     iterator: &mut CronIterator<T>,
@@ -172,10 +172,10 @@ fn compare<T: CronDateTime>(items: &[T], orders: &mut Vec<Ordering>)
 
 /// The next run after a run, and the way back: the previous run before that one.
 ///
-/// In a calm zone, from a run of year 3 or later, over whatever backend, the way back finds that run: the same instant of the
-/// same zone. It is never refused by the limit, also not where the next run lies in year 5000, and where the backend also holds
-/// what a search from the run needs, by nothing but `OutOfMemory`, only over a backend that can lack memory. An error of the
-/// pair is one of the way there alone.
+/// In a calm zone, from a run of year 3 or later, over any backend, the way back finds that run: the same instant in the same
+/// zone. It never fails by the limit, even if the next run is in year 5000. If the backend also holds what a search from the
+/// run needs, it fails only by `OutOfMemory`, over a backend that can lack memory. An error instead of the pair is one of the
+/// way there.
 pub fn there_and_back<T: CronDateTime>(
     job: &Cron,
     run: &T,
@@ -196,7 +196,7 @@ pub fn there_and_back<T: CronDateTime>(
     Ok((next, back))
 }
 
-// Puts the item of one call behind the others, or answers whether nothing is left.
+// Appends the item of one call to the others, or returns whether nothing is left.
 fn take_next<T: CronDateTime>(iterator: &mut CronIterator<T>, runs: &mut Vec<T>) -> bool
     requires room { vec_len runs.old < vec_capacity runs.old }
     ensures takes { Takes T.moment T.can_lack_memory iterator.old iterator.new runs.old.items runs.new.items result }
@@ -212,7 +212,7 @@ fn take_next<T: CronDateTime>(iterator: &mut CronIterator<T>, runs: &mut Vec<T>)
     }
 }
 
-// Puts the item of one call behind the others unless it lies past the second; or answers how the listing ends.
+// Appends the item of one call to the others unless it lies past the second; or returns how the listing ends.
 fn take_next_until<'t>(
     iterator: &mut CronIterator<TableTime<'t>>,
     runs: &mut Vec<TableTime<'t>>,
@@ -237,7 +237,7 @@ fn take_next_until<'t>(
     }
 }
 
-// Whether an instant comes no later in a direction than a second, where there is one.
+// Whether an instant comes no later in a direction than a second, if there is one.
 pub(crate) fn comes_by(direction: Direction, until: Option<i64>, instant: i64) -> bool
     ensures { IsTrue result ↔ ComesBy direction until instant }
 {

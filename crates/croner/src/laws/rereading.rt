@@ -1,4 +1,4 @@
-//! The law of texts read again.
+//! The law of rereading a job's text.
 ghost use Rattle.std.specs.Prelude.{◌≡◌, Ok, IfOk, IfErr, true};
 ghost use Rattle.std.specs.Ordering.{eq_by_cmp};
 ghost use Rattle.croner_pattern.specs.Order.{pattern_cmp};
@@ -11,10 +11,10 @@ use crate::parser::CronParser;
 use croner_base::errors::CronError;
 use std::alloc::Global;
 
-/// A pattern, read, and the text of the job read again by the same parser.
+/// The job of a pattern, and the job that the same parser reads from that job's text.
 ///
-/// Whatever the settings are, the second job is equal to the first and has the same text: the text that a job keeps is a fixed
-/// point of its parser. So there is an error only where the given text is refused, or `OutOfMemory`.
+/// Whatever the settings, the second job is equal to the first and has the same text: the text that a job keeps is a fixed
+/// point of its parser. So the only errors are the refusal of the given text, and `OutOfMemory`.
 pub fn read_twice(parser: &CronParser, alloc: Global, text: &str) -> Result<(Cron, Cron), CronError>
     ensures first { IfOk result (λ r. outcome parser.now text.now ≡ Ok (job_of r.0)) }
     ensures second { IfOk result (λ r. outcome parser.now (job_of r.0).text ≡ Ok (job_of r.1)) }

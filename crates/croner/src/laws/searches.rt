@@ -1,5 +1,5 @@
-//! Laws of searches in every zone, calm or not, and from each start, fractions of a second included. When a zone is calm is said
-//! at [`CronDateTime`].
+//! Laws of searches in every zone, calm or not, and from each start, fractions of a second included. [`CronDateTime`] says when
+//! a zone is calm.
 ghost use Rattle.std.specs.Prelude.{◌≡◌, ◌↔◌, false, IsTrue, IfOk, IfErr, Err};
 ghost use Rattle.croner_base.specs.Civil.{wall_second};
 ghost use Rattle.croner_base.specs.Zone.{reading};
@@ -15,11 +15,11 @@ use crate::Cron;
 use croner_base::errors::CronError;
 use croner_base::time::{CivilDateTime, CronDateTime, Direction};
 
-/// What a search finds, and what `is_time_matching` answers of it.
+/// What a search finds, and what `is_time_matching` says of it.
 ///
-/// The second value is the schedule of what the zone's clock shows at the first. It is true for an interval job, and for each
-/// job where the zone resolves each second that it holds to one instant. A fixed-time job's run that is carried over a gap is
-/// found where nothing is scheduled: there it is false.
+/// The second value is whether what the zone's clock shows at the first is scheduled. It is true for an interval job, and for
+/// every job if the zone resolves each second that it holds to one instant. It is false at a fixed-time job's run that is
+/// carried across a gap, since nothing is scheduled there.
 pub fn found_and_matching<T: CronDateTime>(
     job: &Cron,
     start: &T,
@@ -39,9 +39,9 @@ pub fn found_and_matching<T: CronDateTime>(
 
 /// What a search finds, and what its clock shows there.
 ///
-/// The first value is a whole second of the start's zone, and the second is what that zone's clock shows at it: a scheduled
-/// second for an interval job, and for each job where the zone resolves each second that it holds to one instant. The job and
-/// the start are only read.
+/// The first value is a whole second in the start's zone, and the second is what that zone's clock shows at it. That is a
+/// scheduled second for an interval job, and for every job if the zone resolves each second that it holds to one instant. The
+/// job and the start are only read.
 pub fn found_and_shown<T: CronDateTime>(
     job: &Cron,
     start: &T,
@@ -61,12 +61,12 @@ pub fn found_and_shown<T: CronDateTime>(
     Ok((found, shown))
 }
 
-/// What a search answers, for its refusals.
+/// A search's answer: the law of its errors.
 ///
-/// It is refused by the limit, by `InvalidDate`, by `InvalidTime` or, only over a backend that can lack memory, by
-/// `OutOfMemory`. In a calm zone from a whole second the limit says that no run is left in the searched years; where the backend
-/// also holds what a search needs, it is refused by the limit or by want of memory alone. A start whose clock shows year 5001 or
-/// later forward, year 0 or earlier backward, gets the limit, in every zone and over each backend.
+/// Its errors are the limit, `InvalidDate`, `InvalidTime` and, only over a backend that can lack memory, `OutOfMemory`. In a
+/// calm zone from a whole second the limit means that no run is left in the searched years. If the backend also holds what a
+/// search needs, the only errors are the limit and lack of memory. From a start whose clock shows year 5001 or later (forward),
+/// or year 0 or earlier (backward), the answer is the limit, in every zone and over every backend.
 pub fn found_or_refused<T: CronDateTime>(
     job: &Cron,
     start: &T,

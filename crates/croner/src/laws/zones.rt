@@ -1,10 +1,10 @@
-//! Laws of tables of zones: what searches and listings over the table of a window say of the zone itself, which need not
-//! be calm outside the window.
+//! Laws of tables of zones: what searches and listings over the table of a window say about the zone itself, which need
+//! not be calm outside the window.
 //!
-//! [`ClockTable::of_zone`](crate::time::table::ClockTable::of_zone) makes such a table, where there is one. The seconds well
-//! in a window are those from 180,000 seconds behind its first second to its last; of a zone that is never more than a day
-//! ahead of UTC, those from two days behind its first second. Before these the table lacks an earlier second of the zone
-//! that showed the same, and a fixed-time run is one only where no earlier second did.
+//! [`ClockTable::of_zone`](crate::time::table::ClockTable::of_zone) makes such a table, if there is one. A second is well in
+//! a window if it lies at least 180,000 seconds after the window's first second, and not after its last. In a zone that is
+//! never more than a day ahead of UTC two days after the first are enough. Before that the table may lack an earlier second
+//! at which the zone showed the same, and a fixed-time job runs only at the first such second.
 ghost use Rattle.std.specs.Prelude.{ℕ, ℤ, Bool, List, ◌++◌, ◌↔◌};
 ghost use Rattle.std.specs.List.{All, Contains};
 ghost use Rattle.jiff_tz.specs.declared.timezone.TimeZone.{TimeZone};
@@ -23,10 +23,10 @@ ghost use Rattle.croner.specs.Views.{job_of};
 use crate::Cron;
 use croner_base::time::table::ClockTable;
 
-/// The nearest run over the table of a window is the nearest run in the zone, where start and run lie well in the window.
-/// Forward a run does where the start does and the run is no later than the window's last second; backward, where the run
-/// lies far enough behind its first. Where no run over the table counts in the span that is searched, none of the zone does
-/// that lies well in the window and in the zone's span.
+/// The nearest run over the table of a window is the nearest run in the zone, if start and run lie well in the window. If
+/// the start does, so does a forward run that is no later than the window's last second, and a backward run that lies far
+/// enough after its first. If no run over the table counts in the searched span, none of the zone's runs that lie well in
+/// the window and in the zone's span does.
 pub fn runs_of_a_window(cron: &Cron, table: &ClockTable)
     ensures nearest { (zone : TimeZone) (first last : ℤ) → IsClockOf zone first last (table_zone table.now) →
         (direction : Direction) (inclusive : Bool) (start run : ℤ) → IsWellIn zone first last start → IsWellIn zone first last run →
@@ -38,17 +38,17 @@ pub fn runs_of_a_window(cron: &Cron, table: &ClockTable)
         ¬ (Counts direction inclusive (job_in (zoned_zone zone) (timetable_of (job_of cron.now))) start i) }
 {}
 
-/// A listing over the table of a window is the zone's own listing, as far as its items lie well in the window.
+/// A listing over the table of a window is the zone's own listing, as long as its items lie well in the window.
 ///
-/// From wherever an iterator over the table stands well in the window, with the same pattern and in the same direction:
+/// For an iterator over the table whose position lies well in the window, and one in the zone with the same pattern, position
+/// and direction:
 ///
-/// - the instants well in the window that it has yet to give are those that an iterator in the zone has yet to give;
-/// - items that begin the listing over the table begin that of the zone, up to the first that does not lie well in the
-///   window;
+/// - the instants well in the window that the one has yet to give are those that the other has yet to give;
+/// - the first items over the table are the first in the zone, up to the first that doesn't lie well in the window;
 /// - each run of the zone well in the window that comes no later than some item over the table is among the items. So an item
-///   past the window, or before the seconds well in it, says that none is left out;
-/// - where the items are all that is left over the table in the span that is searched, each run of the zone is among them
-///   that lies well in the window and in the zone's span.
+///   past the window, or before the seconds well in it, means that none is left out;
+/// - if the items are all that is left over the table in the searched span, each run of the zone that lies well in the
+///   window and in the zone's span is among them.
 pub fn listing_of_a_window(table: &ClockTable)
     ensures left { (zone : TimeZone) (first last : ℤ) (s : Standing) → IsOnClockOf zone first last (table_zone table.now) s.position →
         (i : ℤ) → IsWellIn zone first last i → IsLeft s i ↔ IsLeft (in_zone (zoned_zone zone) s) i }
@@ -63,7 +63,7 @@ pub fn listing_of_a_window(table: &ClockTable)
         InSpan s.direction (zoned_zone zone).reads i → Contains items i }
 {}
 
-/// The same of a listing of a table of patterns over the table of a window: its items with their places.
+/// The same for a listing of a table of patterns over the table of a window: its items with their places.
 pub fn table_listing_of_a_window(table: &ClockTable)
     ensures left { (zone : TimeZone) (first last : ℤ) (s : TableStanding) → IsOnClockOf zone first last (table_zone table.now) s.position →
         (i : ℤ) → IsWellIn zone first last i → (k : ℕ) → IsLeftAt s k i ↔ IsLeftAt (table_in_zone (zoned_zone zone) s) k i }

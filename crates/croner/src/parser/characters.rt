@@ -1,4 +1,4 @@
-//! Which characters a field takes, and the first field that has another one.
+//! Which characters a field accepts, and the first field that has another one.
 
 ghost use Rattle.std.specs.Prelude.{◌≡◌, IfOk, MatchOption};
 ghost use Rattle.std.specs.List.{list_all};
@@ -62,7 +62,7 @@ pub fn are_legal(texts: FieldTexts<'_>) -> bool
         && all_plain(texts.years)
 }
 
-/// Whether a field takes a character of a word, whose `?` are not settled yet. A `+` in front of the weekdays is none of these.
+/// Whether a field accepts a character of a word in which `?` isn't replaced yet. A `+` before the weekdays isn't part of that word.
 fn takes(field: PatternField, b: u8) -> bool
     ensures { result ≡ takes field b }
 {
@@ -83,7 +83,7 @@ fn takes_all(field: PatternField, text: &str) -> bool
     text.as_bytes().iter().all(|b| takes(field, *b))
 }
 
-/// The first field with a character that is not legal there; the year, where no other field has one.
+/// The first field with a character that is not legal there; the year if no other field has one.
 pub fn illegal_field(texts: FieldTexts<'_>) -> PatternField
     ensures { result ≡ illegal_field (texts_of texts.entry) }
 {
@@ -104,7 +104,7 @@ pub fn illegal_field(texts: FieldTexts<'_>) -> PatternField
     }
 }
 
-/// The same of words whose names are not replaced yet: a letter that stands for nothing is legal nowhere.
+/// The same for words whose names aren't replaced yet: a letter that means nothing is legal nowhere.
 pub fn illegal_word(
     alloc: Global,
     words: FieldTexts<'_>,
@@ -133,7 +133,7 @@ pub fn illegal_word(
     Ok(PatternField::Year)
 }
 
-/// Whether a word has a number for each name, and a field takes each character of it then.
+/// Whether a word, with a number for each name, has only characters that a field accepts.
 fn is_word_legal(
     alloc: Global,
     field: PatternField,
@@ -148,7 +148,7 @@ fn is_word_legal(
     }
 }
 
-/// A word of a field without its sign in front: one `+` of the weekdays.
+/// A word of a field without a sign before it: one `+` of the weekdays.
 pub fn without_sign(field: PatternField, word: &str) -> &str
     ensures { result.now ≡ without_sign field word.now }
 {
@@ -163,8 +163,8 @@ pub fn without_sign(field: PatternField, word: &str) -> &str
     }
 }
 
-/// A word in capitals from its first character on that the field doesn't take and that is in no name; nothing where it has
-/// none.
+/// The rest of a word in capitals from the first character that the field doesn't accept and that is in no name; empty if
+/// there is none.
 pub fn from_illegal(field: PatternField, word: &str) -> &str
     ensures { result.now ≡ from_illegal field word.now }
 {
@@ -175,7 +175,7 @@ pub fn from_illegal(field: PatternField, word: &str) -> &str
     rest
 }
 
-/// What stands behind the name or the character that a text begins with, where the field takes it.
+/// What follows the name or the character that a text begins with, if the field accepts it.
 fn behind_legal(field: PatternField, text: &str) -> Option<&str>
     ensures { MatchOption result (from_illegal field text.now ≡ text.now) (λ rest. IsBehindLegal field text.now rest.now) }
 {

@@ -6,7 +6,7 @@ ghost use Rattle.croner.specs.parser.Faults.{most_fields};
 use super::{CronParser, Seconds, Year};
 
 impl CronParser {
-    /// These settings, but for the count of fields.
+    /// These settings, with any count of fields accepted.
     pub(super) fn for_any_count(&self) -> CronParser {
         let mut parser = *self;
         parser.seconds = Seconds::Optional;
@@ -14,7 +14,7 @@ impl CronParser {
         parser
     }
 
-    /// The most fields that the settings accept, 0 where they accept no text.
+    /// The most fields that the settings accept; 0 if they accept no text.
     pub(super) fn most_fields(&self) -> usize
         ensures { result ≡ most_fields self.now.seconds_field self.now.year_field }
     {
@@ -22,7 +22,7 @@ impl CronParser {
     }
 }
 
-/// The most fields that settings accept, 0 where they accept no text.
+/// The most fields that settings accept; 0 if they accept no text.
 pub fn most_fields(seconds: Seconds, year: Year) -> usize
     ensures { result ≡ most_fields seconds year }
 {

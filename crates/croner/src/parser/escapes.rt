@@ -3,8 +3,8 @@
 use croner_base::excerpt::Excerpt;
 use std::alloc::{AllocError, Global};
 
-/// What stands at a place of a text, between quotes, and the part of a list in which it stands. A character past ASCII has its
-/// number behind it, since it may look like another.
+/// The text at a place, in quotes, and the part of a list that contains it. A character past ASCII is followed by its number,
+/// since it may look like another.
 pub fn found_at(alloc: Global, text: &str, start: usize, end: usize) -> Result<String, AllocError> {
     let (front, piece, rest) = cut(text, start, end);
     let part = part_around(text, front, rest);
@@ -18,7 +18,7 @@ pub fn found_at(alloc: Global, text: &str, start: usize, end: usize) -> Result<S
     format!(in alloc; "{piece}{number} in {part}")
 }
 
-/// The number of a text's lone character, as ` (U+2013)`; nothing where that is of ASCII, or is shown by its number.
+/// The number of a text's only character, as ` (U+2013)`; nothing if that is ASCII, or is shown by its number.
 fn number_of(alloc: Global, piece: &str) -> Result<String, AllocError> {
     let Some(c) = lone(piece) else {
         return Ok(String::new(alloc));
@@ -30,7 +30,7 @@ fn number_of(alloc: Global, piece: &str) -> Result<String, AllocError> {
     format!(in alloc; " (U+{code:04X})")
 }
 
-/// The character of a text that has one alone.
+/// The character of a text that has exactly one.
 fn lone(text: &str) -> Option<char> {
     let mut chars = text.chars();
     let c = chars.next()?;
@@ -47,7 +47,7 @@ fn is_escaped(alloc: Global, piece: &str) -> Result<bool, AllocError> {
     Ok(shown.starts_with("'\\"))
 }
 
-/// A text in three: what stands in front of a place, the place, and what stands behind it.
+/// A text in three: what comes before a place, the place, and what follows it.
 fn cut(text: &str, start: usize, end: usize) -> (&str, &str, &str) {
     let front = text.get(..start).unwrap_or("");
     let piece = text.get(start..end).unwrap_or(text);
@@ -55,7 +55,7 @@ fn cut(text: &str, start: usize, end: usize) -> (&str, &str, &str) {
     (front, piece, rest)
 }
 
-/// The part of a list between what stands in front of a place and what stands behind it.
+/// The part of a list that contains a place, given what comes before the place and what follows it.
 fn part_around<'t>(text: &'t str, front: &str, rest: &str) -> &'t str {
     let mut from = 0;
     for (at, c) in front.char_indices() {

@@ -1,4 +1,4 @@
-//! Why a text is refused: the fault as data, and the message that is made of it.
+//! Why a text is refused: the fault as data, and the message made from it.
 
 ghost use Rattle.std.specs.Prelude.{◌≡◌, Err, Ok};
 ghost use Rattle.croner_pattern.specs.Meaning.{Meaning};
@@ -23,13 +23,13 @@ impl CronParser {
     ghost use Rattle.croner.specs.parser.Grammar.{Refusal, outcome};
     ghost use Rattle.croner.specs.Views.{job_of};
 
-    /// Why a text is refused; nothing where [`CronParser::parse`] accepts it.
+    /// Why a text is refused; `None` if [`CronParser::parse`] accepts it.
     ///
-    /// The fault has the kind of `parse`'s refusal and a place in the text as it is handed in, in bytes from 0 on bounds of
-    /// characters: the first illegal character of a field, a piece of the first part of a field's list that can't be read, or
-    /// the whole word at which a count is wrong. It names the field, but for a wrong count and a text with `@`; the place in such
-    /// a text has an `@`. The only error is `OutOfMemory`, where memory runs out. It would come too if the place that was found
-    /// failed its test, and no text is known for which it does.
+    /// The fault has the kind of `parse`'s refusal and a place in the given text, in bytes from 0, on character boundaries. The
+    /// place is the first illegal character of a field, a piece of the first part of a field's list that can't be read, or the
+    /// whole word at which a count is wrong. The fault names the field, except for a wrong count and a text with `@`; the place
+    /// in such a text contains an `@`. The only error is `OutOfMemory`, if memory runs out. It would also be returned if the
+    /// place that was found failed its test; no text is known for which it does.
     ///
     /// ```
     /// let parser = CronParser::new();
@@ -45,10 +45,10 @@ impl CronParser {
         }
     }
 
-    /// Reads a pattern, or says why it is refused: the job that [`CronParser::parse`] gives of a text that it accepts, and else the
+    /// Reads a pattern, or says why it is refused: the job that [`CronParser::parse`] gives for a text that it accepts, or else the
     /// fault that [`CronParser::explain`] gives.
     ///
-    /// A text is read once, where the two calls would read it twice. The only error is want of memory, as `explain` has it.
+    /// A text is read once; the two calls would read it twice. The only error is lack of memory, as for `explain`.
     ///
     /// ```
     /// let parser = CronParser::new();
@@ -72,7 +72,7 @@ impl CronParser {
         }
     }
 
-    /// The fault of a text that is refused for this cause.
+    /// The fault of a text refused for this cause.
     fn fault_of(&self, alloc: Global, text: &str, cause: Cause) -> Result<PatternFault, AllocError>
         requires { outcome self.now text.now ≡ Err (refusal_of cause) }
         ensures { IfOk result (λ f. IsFault self.now text.now (refusal_of cause) f) }
@@ -82,7 +82,7 @@ impl CronParser {
         Ok(fault_at(text, cause, found))
     }
 
-    /// The error of a text that is refused for this cause, with its message.
+    /// The error of a text refused for this cause, with its message.
     pub(super) fn error_of(&self, alloc: Global, text: &str, cause: Cause) -> CronError
         requires { outcome self.now text.now ≡ Err (refusal_of cause) }
         ensures { Fails {Y = Meaning} result (Err (refusal_of cause)) }
@@ -112,7 +112,7 @@ impl CronParser {
     }
 }
 
-/// The bytes that a message repeats: the fault's place, and of a text of too few fields the whole.
+/// The bytes that a message repeats: the fault's place, or the whole text if it has too few fields.
 fn repeated(text: &str, fault: &PatternFault) -> (usize, usize) {
     match fault.expected {
         Expected::Count {

@@ -1,8 +1,8 @@
-//! What a message of a refusal is made of: the kind, the field, the place in the text, and what was expected there.
+//! The parts of an error message: the kind of error, the field, the place in the text, and what was expected there.
 
 use super::{Seconds, Year};
 
-/// The kind of a refusal: the variant of `CronError` that `parse` answers.
+/// The kind of a refusal: the variant of `CronError` that `parse` returns.
 #[derive(Debug, Clone, Copy, PartialEq, Eq)]
 pub enum FaultKind {
     /// `CronError::EmptyPattern`: nothing but white space.
@@ -65,14 +65,14 @@ impl PatternField {
     }
 }
 
-/// Why the text at the place of a fault may not be as it is, beside what was expected.
+/// What may have gone wrong at the place of a fault, besides what was expected there.
 #[derive(Debug, Clone, Copy, PartialEq, Eq)]
 pub enum Hint {
     /// There is nothing to add.
     None,
-    /// Six fields begin with the second; with `0` in front of them the last is the year.
+    /// Six fields begin with the second; with a `0` before them the last is the year.
     SixFields,
-    /// Six fields begin with the second, and these settings take no year.
+    /// Six fields begin with the second, and these settings have no year.
     SixFieldsWithoutYear,
     /// A space beside a comma: a space begins a new field.
     SpaceAfterComma,
@@ -80,35 +80,35 @@ pub enum Hint {
     SpaceInPart,
     /// A pattern ends before the command of a crontab's line.
     Command,
-    /// A pattern ends before the command of a crontab's line, which stands behind so many fields.
+    /// A pattern ends before the command of a crontab's line, which comes after so many fields.
     CommandBehind { fields: usize },
-    /// These settings take no second: the first field is one too many.
+    /// These settings have no second: the first field is one too many.
     NoSecond,
-    /// These settings take no year: the last field is one too many.
+    /// These settings have no year: the last field is one too many.
     NoYear,
-    /// These settings take neither a second nor a year.
+    /// These settings have neither a second nor a year.
     NoSecondAndYear,
-    /// The second is wanted: `0` in front says the same.
+    /// A second is required: a `0` before the pattern means the same.
     SecondInFront,
-    /// The year is wanted: `*` at the end says the same.
+    /// A year is required: a `*` at the end means the same.
     YearAtEnd,
-    /// The second and the year are wanted: `0` in front and `*` at the end say the same.
+    /// A second and a year are required: a `0` before the pattern and a `*` at its end mean the same.
     SecondAndYear,
     /// The sign is legal in other fields: `L`, `W`, `?`, `#` or `+`.
     SignElsewhere { sign: char },
-    /// A `?` is the whole of a field that takes none: `*` says the same.
+    /// A field that has no `?` is just `?`: `*` means the same.
     StarForQuestion,
-    /// An interval is a step, as in this pattern.
+    /// An interval is written as a step, as in this pattern.
     Interval { pattern: &'static str },
-    /// A line feed stands at this character, from 1, and another line behind it.
+    /// There is a line feed at this character, from 1, and another line after it.
     LineFeed { character: usize },
-    /// A comma stands between two names.
+    /// Two names need a comma between them.
     NamesTogether,
     /// The minute and the hour are two fields.
     TimeOfDay,
-    /// No quotes stand around a pattern.
+    /// A pattern has no quotes around it.
     Quotes,
-    /// No setting stands in front of a pattern.
+    /// A pattern has no setting before it.
     Setting,
     /// A comment is no pattern.
     Comment,
@@ -116,24 +116,24 @@ pub enum Hint {
     AtSign { nickname: &'static str },
     /// A dash is `-` alone.
     Dash,
-    /// The name is one of months, and the field another.
+    /// The name is that of a month, in another field.
     MonthElsewhere,
-    /// The name is one of weekdays, and the field another.
+    /// The name is that of a weekday, in another field.
     WeekdayElsewhere,
     /// The hour of midnight is 0.
     Midnight,
 }
 
-/// What to write in the place of a part that is refused, where there is something that says the same.
+/// What to write in place of a refused part, if there is something that means the same.
 #[derive(Debug, Clone, Copy, PartialEq, Eq)]
 pub enum Suggestion {
     /// There is none.
     None,
-    /// Every so many values from the field's least one on: `*/10`.
+    /// A step from the field's least value on: `*/10`.
     StarStep {
         step: u16,
     },
-    /// Every so many values of a range: `5-59/10`.
+    /// A step in a range: `5-59/10`.
     RangeStep {
         first: u16,
         last: u16,
@@ -165,7 +165,7 @@ pub enum ValueNames {
 /// What was expected at the place of a fault.
 #[derive(Debug, Clone, Copy, PartialEq, Eq)]
 pub enum Expected {
-    /// A pattern, and not white space alone.
+    /// A pattern, not just white space.
     Pattern,
     /// Another count of fields: these settings accept others.
     Count {
@@ -178,27 +178,27 @@ pub enum Expected {
     Settings,
     /// One of the six nicknames.
     Nickname,
-    /// The nickname `@daily`, which says the same as `@midnight`.
+    /// The nickname `@daily`, which means the same as `@midnight`.
     NicknameOfMidnight,
     /// One of the six nicknames; `@reboot` names no time.
     NicknameOfTime,
-    /// A step in the place of `@every`, as in this pattern.
+    /// A step in place of `@every`, as in this pattern.
     NicknameOfInterval {
         pattern: &'static str,
     },
-    /// Seven fields: the settings want a year.
+    /// Seven fields: the settings require a year.
     NicknameWithoutYear,
-    /// Seven fields: `@reboot` names no time, and the settings want a year.
+    /// Seven fields: `@reboot` names no time, and the settings require a year.
     NicknameOfTimeWithoutYear,
-    /// Seven fields: there is no such nickname, and the settings want a year.
+    /// Seven fields: there is no such nickname, and the settings require a year.
     NoNicknameWithoutYear,
     /// The pattern in seven fields: the nickname has too few for these settings.
     NicknameInFields {
         pattern: &'static str,
     },
-    /// No `@`: one stands in front of a nickname alone.
+    /// No `@`: it may only begin a nickname.
     NoAtSign,
-    /// A name of three letters: the one that stands in front.
+    /// A name of three letters: the one that the text begins with.
     Name {
         name: &'static str,
     },
@@ -215,7 +215,7 @@ pub enum Expected {
         names: ValueNames,
         hint: Hint,
     },
-    /// A number of the field in front of a sign, or behind it, or a name for it.
+    /// A number of the field before or after a sign, or a name for it.
     NumberBeside {
         sign: char,
         behind: bool,
@@ -238,15 +238,15 @@ pub enum Expected {
     },
     /// A step that doesn't pass the greatest number.
     ShorterStep,
-    /// The first value alone: the step reaches no second one.
+    /// The first value alone: the step doesn't reach a second one.
     FirstAlone {
         first: u16,
     },
-    /// A step from the field's least value on, without the unit behind it.
+    /// A step from the field's least value on, without the unit after it.
     StepAlone {
         step: u16,
     },
-    /// A star or a range in front of the `/`.
+    /// A star or a range before the `/`.
     RangeToStep {
         suggestion: Suggestion,
     },
@@ -258,17 +258,17 @@ pub enum Expected {
     OneStar,
     /// One question mark.
     OneQuestion,
-    /// A number from 1 to 5 or `L` behind the `#`.
+    /// A number from 1 to 5 or `L` after the `#`.
     Nth,
     /// `L` alone, or `LW`, in the day of month.
     LastAlone,
-    /// `L` or `LW` in the day of month: no day is counted back from the last one.
+    /// `L` or `LW` in the day of month: days can't be counted back from the last one.
     LastCountedBack,
-    /// `L` alone, or `LW`, in the day of month: behind a weekday it stands in the weekday.
+    /// `L` alone, or `LW`, in the day of month: after a weekday it belongs in the weekday field.
     LastOfWeekday,
-    /// One weekday in front of the `L`.
+    /// One weekday before the `L`.
     LastBehindWeekday,
-    /// One day of the month in front of the `W`.
+    /// One day of the month before the `W`.
     NearestBehindDay,
     /// `LW`.
     LastNearest,
@@ -276,7 +276,7 @@ pub enum Expected {
 
 /// A fault of a text that [`CronParser::parse`](super::CronParser::parse) refuses: where it is, and what was expected there.
 ///
-/// It holds no text. Written out it is the message of the refusal, without what the text says there.
+/// It holds no text. As a string it is the message of the refusal, without what the text says there.
 ///
 /// ```
 /// let parser = CronParser::new();
@@ -290,13 +290,13 @@ pub enum Expected {
 pub struct PatternFault {
     /// The kind of the refusal.
     pub kind: FaultKind,
-    /// The field in which it lies: none for an empty text, a wrong count, and a text with `@`.
+    /// The field that contains it; `None` for an empty text, a wrong count, and a text with `@`.
     pub field: Option<PatternField>,
     /// The byte of the text at which it begins, from 0.
     pub start: usize,
-    /// The byte behind its last one.
+    /// The byte after its last one.
     pub end: usize,
-    /// The place of its first character in the text, from 1.
+    /// The number of its first character in the text, from 1.
     pub character: usize,
     /// What was expected there.
     pub expected: Expected,

@@ -1,4 +1,4 @@
-//! The words of refusals: the one place where they stand.
+//! The words of error messages, all in one place.
 
 use super::fault::{Expected, Hint, PatternFault, PatternField, Suggestion, ValueNames};
 use super::{Seconds, Year};
@@ -57,7 +57,7 @@ impl fmt::Display for Expected {
 }
 
 impl Expected {
-    /// Which number was expected, and the sentences to which none belongs.
+    /// Which number was expected; also the sentences without a number.
     fn write_number<W: fmt::Write>(&self, f: &mut fmt::Formatter<W>) -> fmt::Result {
         match *self {
             Expected::Number {
@@ -93,7 +93,7 @@ impl Expected {
         }
     }
 
-    /// Which counts of fields were expected, and the other sentences.
+    /// Which counts of fields were expected; also the other sentences.
     fn write_count<W: fmt::Write>(&self, f: &mut fmt::Formatter<W>) -> fmt::Result {
         match self {
             Expected::Count {
@@ -133,7 +133,7 @@ impl Expected {
         }
     }
 
-    /// What was expected, where no number and no hint belongs to it.
+    /// What was expected, for a sentence without a number or a hint.
     fn sentence(&self) -> &'static str {
         match self {
             Expected::ShorterStep => {
@@ -212,7 +212,7 @@ impl Expected {
 const NICKNAMES: &str =
     "no such nickname: they are @yearly, @annually, @monthly, @weekly, @daily and @hourly.";
 
-/// The hint as a sentence behind another, with a space in front; the empty text where there is none.
+/// The hint as a sentence to follow another, with a space before it; empty if there is none.
 impl fmt::Display for Hint {
     fn fmt<W: fmt::Write>(&self, f: &mut fmt::Formatter<W>) -> fmt::Result {
         match *self {
@@ -294,7 +294,7 @@ impl Hint {
     }
 }
 
-/// Where a sign stands, as a sentence behind another.
+/// Where a sign is legal, as a sentence to follow another.
 fn sign_words(sign: char) -> &'static str {
     match sign {
         'L' => " L stands in the day of month, and behind a weekday.",
@@ -387,7 +387,7 @@ impl fmt::Display for AnyValue {
     }
 }
 
-/// `: write 22-23,0-2`, or the empty text where there is no suggestion.
+/// `: write 22-23,0-2`, or empty if there is no suggestion.
 impl fmt::Display for Suggestion {
     fn fmt<W: fmt::Write>(&self, f: &mut fmt::Formatter<W>) -> fmt::Result {
         match *self {

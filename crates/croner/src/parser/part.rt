@@ -8,7 +8,7 @@ const FIRST_YEAR: u16 = YEAR_LOWER_LIMIT as u16;
 
 const LAST_YEAR: u16 = YEAR_UPPER_LIMIT as u16;
 
-/// How the parts of a field are read, and what a refused number of it may come from.
+/// How the parts of a field are read, and what may have caused a refused number.
 #[derive(Clone, Copy)]
 pub struct Rules {
     pub field: PatternField,
@@ -42,7 +42,7 @@ impl Rules {
         }
     }
 
-    /// A number of the field was expected in the place of a part of it.
+    /// A number of the field was expected in place of a part of it.
     fn number_for(self, part: Part<'_>) -> Expected {
         let mut rules = self;
         if self.hint == Hint::None && self.field == PatternField::Hours && part.read == "24" {
@@ -67,7 +67,7 @@ impl Rules {
         }
     }
 
-    /// A step was expected. A space in front of it or behind it is the only thing to add.
+    /// A step was expected. The only possible hint is a space before or after it.
     fn step(self) -> Expected {
         let hint = match self.hint {
             Hint::SpaceInPart => Hint::SpaceInPart,
@@ -76,7 +76,7 @@ impl Rules {
         Expected::Step { hint }
     }
 
-    /// How the values of the field may be written beside numbers.
+    /// How the values of the field may be written, besides as numbers.
     fn names(self) -> ValueNames {
         match self.field {
             PatternField::Month => ValueNames::Months,
@@ -99,7 +99,7 @@ pub struct Part<'t> {
     pub read: &'t str,
 }
 
-/// What stands in front of a sign, the sign, and what stands behind it.
+/// What comes before a sign, the sign, and what follows it.
 #[derive(Clone, Copy)]
 struct Sides<'t> {
     left: Part<'t>,
@@ -108,7 +108,7 @@ struct Sides<'t> {
 }
 
 impl<'t> Part<'t> {
-    /// The two sides of the first such sign. A sign is read as it is written.
+    /// The two sides of the first such sign. A sign is the same as written and as read.
     fn split(self, sign: char) -> Option<Sides<'t>> {
         let (left, right) = self.read.split_once(sign)?;
         let at = self.written.text.find(sign)?;
@@ -165,7 +165,7 @@ pub fn fault_of_part(part: Part<'_>, rules: Rules) -> (Piece<'_>, Expected) {
     }
 }
 
-/// What names every value stands alone: a `*`, or a `?` for it.
+/// What was expected of a `*`, or a `?` for it, with something beside it: that it be alone.
 fn alone(part: Part<'_>) -> Expected {
     if part.written.text == "?" {
         return Expected::QuestionAlone;
@@ -173,7 +173,7 @@ fn alone(part: Part<'_>) -> Expected {
     Expected::StarAlone
 }
 
-/// The part in front of its first `#`.
+/// The part before its first `#`.
 fn head_of(part: Part<'_>) -> Part<'_> {
     match part.split('#') {
         Some(sides) => sides.left,
@@ -181,7 +181,7 @@ fn head_of(part: Part<'_>) -> Part<'_> {
     }
 }
 
-/// The text behind a `#` that is neither `L` nor a number from 1 to 5.
+/// The text after a `#`, if it is neither `L` nor a number from 1 to 5.
 fn fault_of_nth(part: Part<'_>) -> Option<(Piece<'_>, Expected)> {
     let sides = part.split('#')?;
     if part.read.ends_with('L') {
@@ -210,7 +210,7 @@ fn fault_of_side<'t>(
     fault_of_value(side, rules)
 }
 
-/// What should be one value of the field, and isn't.
+/// What is wrong with a text that should be one value of the field.
 fn fault_of_value<'t>(value: Part<'t>, rules: Rules) -> Option<(Piece<'t>, Expected)> {
     if let Some(number) = value.number() {
         if rules.has(number) {
@@ -227,7 +227,7 @@ fn fault_of_value<'t>(value: Part<'t>, rules: Rules) -> Option<(Piece<'t>, Expec
     Some((value.written, expected))
 }
 
-/// Where an `L` or a `W` stands, if one stands in what should be a number.
+/// The place of an `L` or a `W`, if there is one in what should be a number.
 fn fault_of_modifier(value: Part<'_>, rules: Rules) -> Option<Expected> {
     match rules.field {
         PatternField::DayOfMonth if value.read.contains('L') => Some(Expected::LastAlone),
@@ -242,7 +242,7 @@ fn is_many(text: &str, character: u8) -> bool {
     text.len() > 1 && text.as_bytes().iter().all(|b| *b == character)
 }
 
-/// Whether letters that are read as a number are more than one name.
+/// Whether letters that are read as a number are several names.
 fn are_names(text: &str) -> bool {
     text.len() > 3 && text.as_bytes().iter().all(|b| b.is_ascii_alphabetic())
 }
@@ -284,7 +284,7 @@ fn fault_of_range<'t>(
     Some((part.written, Expected::Ascending { suggestion }))
 }
 
-/// A range that went past the greatest value, as ranges that go up. Years don't begin anew.
+/// A range that went past the greatest value, as ranges that go up. Years don't start over.
 fn around(left: Part<'_>, right: Part<'_>, rules: Rules) -> Suggestion {
     let (Some(first), Some(last)) = (left.number(), right.number()) else {
         return Suggestion::None;
@@ -372,7 +372,7 @@ fn too_long(part: Part<'_>, left: Part<'_>, rules: Rules) -> Expected {
     }
 }
 
-/// What stands in front of a `/` and is no range.
+/// What is wrong before a `/`, if that is no range.
 fn fault_of_start<'t>(
     part: Part<'t>,
     left: Part<'t>,
@@ -403,7 +403,7 @@ fn fault_of_start<'t>(
     Some((part.written, Expected::RangeToStep { suggestion }))
 }
 
-/// Whether a step from a number on, or from nothing, passes the greatest number behind its last value.
+/// Whether a step from a number, or from nothing, goes beyond the greatest number of 16 bits after its last value.
 fn is_too_long(number: Option<u16>, step: u16, rules: Rules) -> bool {
     let (least, greatest) = rules.bounds();
     let first = number.unwrap_or(least);
@@ -415,7 +415,7 @@ fn is_too_long(number: Option<u16>, step: u16, rules: Rules) -> bool {
     last.checked_add(step).is_none()
 }
 
-/// A step from a number on, or from nothing, as it may be written.
+/// A step from a number, or from nothing, as it may be written.
 fn stepped(number: Option<u16>, step: u16, rules: Rules) -> Suggestion {
     let (least, last) = rules.bounds();
     match number {
@@ -434,7 +434,7 @@ fn fault_of_nearest<'t>(sides: Sides<'t>, rules: Rules) -> Option<(Piece<'t>, Ex
     fault_of_value(sides.left, rules)
 }
 
-/// What an `L` in the days may be meant for.
+/// What an `L` in the days may have been meant for.
 fn fault_of_last(part: Part<'_>) -> Expected {
     match part.read.strip_suffix('L') {
         Some("0" | "1" | "2" | "3" | "4" | "5" | "6" | "7") => Expected::LastOfWeekday,

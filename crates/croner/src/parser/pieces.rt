@@ -1,4 +1,4 @@
-//! Pieces of a text: its words in their places, cut once for a fault.
+//! Pieces of a text: its words with their places, cut once for a fault.
 
 ghost use Rattle.std.specs.Prelude.{◌≡◌, ◌+◌, ◌<◌, ◌^◌, length, IfOk};
 ghost use Rattle.croner.specs.Private.parser.Places.{AreItsWords};
@@ -14,7 +14,7 @@ pub struct Piece<'t> {
 }
 
 impl<'t> Piece<'t> {
-    /// The byte behind its last one.
+    /// The byte after its last one.
     pub fn end(self) -> usize
         ensures { self.entry.start + length self.entry.text.now < 2 ^ 64 → result ≡ self.entry.start + length self.entry.text.now }
     {
@@ -42,7 +42,7 @@ pub struct Finding {
     pub expected: Expected,
 }
 
-/// The words of a text in their places.
+/// The words of a text with their places.
 pub fn words_of<'t>(alloc: Global, text: &'t str) -> Result<Vec<Piece<'t>>, AllocError>
     ensures { IfOk result (λ v. AreItsWords text.now v.items) }
 {

@@ -29,8 +29,8 @@ pub fn fault_at(text: &str, cause: Cause, found: Finding) -> PatternFault
     }
 }
 
-/// The field that refused a text. A text with `@` may get fields that are not written in it, so that no word of it is a
-/// field's.
+/// The field that refused a text. None for a text with `@`: it may get fields that aren't written in it, so no word of
+/// it is a field.
 fn named_field(text: &str, cause: Cause) -> Option<PatternField>
     ensures { result ≡ named_field text.now (refusal_of cause) }
 {
@@ -64,7 +64,7 @@ fn character_at(text: &str, start: usize) -> usize
     front.chars().count() + 1
 }
 
-/// How many fields in front are not written where a text has so many words: five words begin with the minutes.
+/// How many fields before the first word are not written, given the number of words: five words begin with the minutes.
 fn unwritten(count: usize) -> usize
     ensures count { (text : List ℕ) → count ≡ length (words text) → result ≡ unwritten text }
     ensures small { result < 2 }

@@ -1,4 +1,4 @@
-//! The first step: a text is raised and trimmed, and its nickname and its names are replaced.
+//! The first step: a text is put into capitals and trimmed, and its nickname and its names are replaced.
 
 ghost use Rattle.std.specs.Prelude.{◌≡◌, Err, ◌++◌, ◌<◌, nat_le, Bool, None, false, [], ℕ, List, codes, length, option_map, slice_index, string_bytes, IfOk, OnOk, IfSome, MatchOption, if◌then◌else◌};
 ghost use Rattle.croner_base.specs.Part.{contains_byte};
@@ -16,7 +16,7 @@ use std::alloc::{AllocError, Global};
 pub const NAME_LENGTH: usize = 3;
 
 impl CronParser {
-    /// The text as a pattern keeps it: raised, trimmed, its nickname replaced, and with a number for each name.
+    /// The text as a pattern keeps it: in capitals, trimmed, its nickname replaced, and with a number for each name.
     pub(super) fn prepare(&self, alloc: Global, given: &str) -> Result<String, Stop>
         ensures { Prepares self.now given.now result }
     {
@@ -36,7 +36,7 @@ impl CronParser {
         }
     }
 
-    /// The text in which a nickname is replaced, where there is an `@`.
+    /// The text with its nickname replaced, if there is an `@`.
     fn nickname(&self, alloc: Global, text: &str) -> Result<Option<String>, AllocError>
         ensures { IfOk result (λ t. MatchOption t (nicknamed self.now text.now ≡ text.now) (λ t. string_bytes t ≡ nicknamed self.now text.now)) }
     {
@@ -49,8 +49,8 @@ impl CronParser {
         Ok(Some(full))
     }
 
-    /// Why a text is refused in which a letter stands for nothing: for its count of fields, or for the first field with such a
-    /// letter, or with a character that is not legal there.
+    /// Why a text with a letter that means nothing is refused: for its count of fields, or for the first field that has such a
+    /// letter, or a character that is not legal there.
     fn cause_of_letter(&self, alloc: Global, full: &str) -> Result<Cause, AllocError>
         ensures { IfOk result (λ cause. of_replaced self.now full.now None ≡ Err (refusal_of cause)) }
     {
@@ -72,7 +72,7 @@ pub fn has_byte(text: &str, byte: u8) -> bool
     text.as_bytes().iter().any(|b| *b == byte)
 }
 
-/// The copy of a text where there is one, and else the text.
+/// The copy of a text if there is one, or else the text.
 pub fn text_or<'t>(copy: &'t Option<String>, text: &'t str) -> &'t str
     ensures { (expected : List ℕ) → MatchOption copy.now (expected ≡ text.now) (λ t. string_bytes t ≡ expected)
         → result.now ≡ expected }
@@ -97,8 +97,8 @@ fn nickname(text: &str) -> &str
     }
 }
 
-/// The pattern of a text with `@`: that of its nickname, where it is one, with the fields in front and behind that are
-/// required.
+/// The pattern of a text with `@`: that of its nickname, if it is one, with the seconds before it and the year after
+/// it if they are required.
 pub fn nicknamed(alloc: Global, text: &str, seconds: bool, year: bool) -> Result<String, AllocError>
     ensures { IfOk result (λ t. string_bytes t
         ≡ (if seconds then codes "0 " else []) ++ nickname_of text.now ++ (if year then codes " *" else [])) }
@@ -165,7 +165,7 @@ fn number_of(name: &str, after_dash: bool, quartz: bool) -> Option<u8>
     Some(weekday_number(place, after_dash, quartz))
 }
 
-/// What stands behind the name that a text in capitals begins with; nothing where it begins with none.
+/// What follows the name that a text in capitals begins with; `None` if it begins with none.
 pub fn behind_name(text: &str) -> Option<&str>
     ensures { MatchOption result (HasNoName text.now) (λ rest. IsBehindName text.now rest.now) }
 {
@@ -176,7 +176,7 @@ pub fn behind_name(text: &str) -> Option<&str>
     Some(rest)
 }
 
-/// Whether a text may begin with a letter: no digit, and none of the signs in front of the letters.
+/// Whether a text may begin with a letter: it doesn't begin with a digit, or with a sign that ASCII has before the letters.
 fn begins_with_letter(text: &str) -> bool
     ensures { result ≡ nat_le 65 (slice_index text.now 0) }
 {
@@ -201,7 +201,7 @@ fn weekday_number(place: u8, after_dash: bool, quartz: bool) -> u8
     }
 }
 
-/// Writes a number below 20 behind a text.
+/// Appends a number below 20 to a text.
 fn push_number(text: &mut String, number: u8) -> Result<(), AllocError>
     requires { number < 20 }
     ensures { OnOk result (string_bytes text.new ≡ string_bytes text.old ++ decimal_of number) }
@@ -213,15 +213,15 @@ fn push_number(text: &mut String, number: u8) -> Result<(), AllocError>
     text.push(char::from(b'0' + (number - 10)))
 }
 
-/// Whether a letter stands for nothing by itself.
+/// Whether a letter means nothing by itself.
 pub fn is_lost(c: char) -> bool
     ensures { result ≡ is_lost c }
 {
     c.is_ascii_uppercase() && c != 'L' && c != 'W'
 }
 
-/// Writes what stands for the first piece of a text, a name or a character, and answers the rest of the text; nothing
-/// where the text begins with a letter that stands for nothing.
+/// Writes the replacement of the first piece of a text, a name or a character, and returns the rest of the text;
+/// `None` if the text begins with a letter that means nothing.
 fn push_piece<'t>(
     written: &mut String,
     text: &'t str,
@@ -243,7 +243,7 @@ fn push_piece<'t>(
     push_char(written, text)
 }
 
-/// Writes the first character of a text, and answers the rest; nothing where it is a letter that stands for nothing.
+/// Writes the first character of a text, and returns the rest; `None` if it is a letter that means nothing.
 #[inline(always)]
 fn push_char<'t>(written: &mut String, text: &'t str) -> Result<Option<&'t str>, AllocError>
     requires { 0 < length text.now }
@@ -260,7 +260,7 @@ fn push_char<'t>(written: &mut String, text: &'t str) -> Result<Option<&'t str>,
     }
 }
 
-/// The text with a number in the place of each name, in one pass; nothing where a letter is left that stands for nothing.
+/// The text with a number in place of each name, in one pass; `None` if a letter is left that means nothing.
 pub fn replaced(alloc: Global, text: &str, quartz: bool) -> Result<Option<String>, AllocError>
     ensures { IfOk result (λ t. option_map string_bytes t ≡ replaced quartz false text.now) }
 {

@@ -21,8 +21,8 @@ use std::alloc::Global;
 impl CronParser {
     ghost use Rattle.croner.specs.parser.Grammar.{of_settled};
 
-    /// The pattern of fields that are settled. It stops only for a field, which has a character that is not legal there or
-    /// can't be read, and for want of memory.
+    /// The pattern of settled fields. It stops only for a field that has a character that is not legal there, or can't be
+    /// read, and for lack of memory.
     pub(super) fn read(
         &self,
         alloc: Global,
@@ -49,7 +49,7 @@ impl CronParser {
     }
 }
 
-/// Reads the text of a field into it; a refusal is of that field, and of the part of its list at which reading stopped.
+/// Reads the text of a field into it; a refusal names that field, and the part of its list at which reading stopped.
 fn read_field(
     component: &mut CronComponent,
     text: &str,

@@ -1,5 +1,5 @@
 //! The second reading of a refused text: where its first fault is, and what was expected there. It looks at the text as it was
-//! handed in, with its own letters and names.
+//! given, with its own letters and names.
 
 ghost use Rattle.std.specs.Prelude.{◌≡◌, ◌+◌, ◌<◌, ◌^◌, ℕ, List, [], true, length, IfOk, MatchOption, IsCharBoundary, IsSomeAnd};
 ghost use Rattle.std.specs.Str.{str_to_ascii_uppercase};
@@ -59,7 +59,7 @@ pub fn find_fault(
 
 // ---- counts
 
-/// The first field too many, or the last word of a text of too few; the whole of a nickname.
+/// The first field too many, or the last word of a text with too few; for a nickname, all of it.
 fn wrong_count(
     alloc: Global,
     parser: &CronParser,
@@ -104,8 +104,8 @@ fn hint_of_count(
     hint_of_few(alloc, parser, text, words)
 }
 
-/// Why there may be too few fields: a nickname without its sign, a time of day, what is no pattern, an interval in words, or a
-/// pattern without the second or the year that the settings want.
+/// Why there may be too few fields: a nickname without its sign, a time of day, something other than a pattern, or an interval
+/// in words. Or the second or the year that the settings require is missing.
 fn hint_of_few(
     alloc: Global,
     parser: &CronParser,
@@ -152,7 +152,7 @@ fn is_unit(word: &str) -> bool {
     UNITS.iter().any(|unit| word.eq_ignore_ascii_case(unit))
 }
 
-/// Whether a text is a pattern where each count of fields is accepted.
+/// Whether a text would be a pattern if any count of fields were accepted.
 fn is_pattern(alloc: Global, parser: &CronParser, text: &str) -> Result<bool, AllocError> {
     match parser.for_any_count().parse_text(alloc, text) {
         Ok(_pattern) => Ok(true),
@@ -161,7 +161,7 @@ fn is_pattern(alloc: Global, parser: &CronParser, text: &str) -> Result<bool, Al
     }
 }
 
-/// Which field a pattern lacks that the settings want.
+/// Which field that the settings require a pattern lacks.
 fn hint_of_wanted(parser: &CronParser, words: &[Piece<'_>]) -> Hint {
     if parser.year != Year::Required {
         return Hint::SecondInFront;
@@ -172,7 +172,7 @@ fn hint_of_wanted(parser: &CronParser, words: &[Piece<'_>]) -> Hint {
     Hint::YearAtEnd
 }
 
-/// The nickname that a word would be with `@` in front, where the settings take one.
+/// The nickname that a word would be with `@` before it, if the settings accept one.
 fn nickname_of(word: &str, year: Year) -> Option<&'static str> {
     if year == Year::Required {
         return None;
@@ -208,7 +208,7 @@ fn is_time_of_day(word: &str) -> bool {
     }
 }
 
-/// What a text may be that is no pattern: a setting, or a comment.
+/// What a text that is no pattern may be: a setting, or a comment.
 fn hint_of_no_pattern(words: &[Piece<'_>]) -> Hint {
     let first = text_at(words, 0);
     if first.starts_with('#') {
@@ -220,8 +220,8 @@ fn hint_of_no_pattern(words: &[Piece<'_>]) -> Hint {
     Hint::None
 }
 
-/// Why there may be too many fields: a space beside a sign, a second or a year that the settings don't take, or a command
-/// behind the pattern.
+/// Why there may be too many fields: a space beside a sign, a second or a year that the settings don't have, or a command
+/// after the pattern.
 fn hint_of_many(
     alloc: Global,
     parser: &CronParser,
@@ -247,7 +247,7 @@ fn hint_of_many(
     hint_of_command(alloc, words, most)
 }
 
-/// Which field a pattern has that the settings don't take.
+/// Which field a pattern has that the settings don't.
 fn hint_of_unwanted(parser: &CronParser, words: &[Piece<'_>]) -> Hint {
     if parser.seconds != Seconds::Disallowed {
         return Hint::NoYear;
@@ -258,7 +258,7 @@ fn hint_of_unwanted(parser: &CronParser, words: &[Piece<'_>]) -> Hint {
     Hint::NoSecondAndYear
 }
 
-/// Where a command may begin: at the first word behind five that no field takes.
+/// Where a command may begin: at the first word after five that no field accepts.
 fn hint_of_command(alloc: Global, words: &[Piece<'_>], most: usize) -> Result<Hint, AllocError> {
     for (place, word) in words.iter().enumerate().take(most.saturating_add(1)) {
         if place < LEAST_FIELDS || is_of_days(alloc, *word)? {
@@ -272,7 +272,7 @@ fn hint_of_command(alloc: Global, words: &[Piece<'_>], most: usize) -> Result<Hi
     Ok(Hint::None)
 }
 
-/// Whether each character of a word is legal in the day of month, or each in the weekday: these take every sign.
+/// Whether each character of a word is legal in the day of month, or each in the weekday; these two accept every sign.
 fn is_of_days(alloc: Global, word: Piece<'_>) -> Result<bool, AllocError> {
     let raised = word.text.to_ascii_uppercase(alloc)?;
     let in_days = illegal_at(word.text, raised.as_str(), PatternField::DayOfMonth);
@@ -308,7 +308,7 @@ fn nickname_fault(words: &[Piece<'_>], count: Expected, parser: &CronParser) -> 
     Expected::Nickname
 }
 
-/// The pattern for each fifth minute, with the fields that the settings want.
+/// The pattern for every fifth minute, with the fields that the settings require.
 fn each_fifth_minute(parser: &CronParser) -> &'static str {
     if parser.year == Year::Required {
         return "0 */5 * * * * *";
@@ -319,7 +319,7 @@ fn each_fifth_minute(parser: &CronParser) -> &'static str {
     "*/5 * * * *"
 }
 
-/// The seven fields of a nickname, and of `@midnight`, which is none here.
+/// The seven fields of a nickname, and of `@midnight`, which isn't a nickname here.
 fn nickname_in_fields(word: &str) -> Option<&'static str> {
     if word.eq_ignore_ascii_case("@yearly") || word.eq_ignore_ascii_case("@annually") {
         return Some("0 0 0 1 1 * *");
@@ -341,7 +341,7 @@ fn nickname_in_fields(word: &str) -> Option<&'static str> {
 
 // ---- characters
 
-/// The word of a field, and its place among the words; nothing where there is none.
+/// The word of a field, and its place among the words; `None` if there is none.
 fn word_of<'t>(words: &[Piece<'t>], field: PatternField) -> Option<(usize, Piece<'t>)>
     ensures { (text : List ℕ) → AreItsWords text words.now → IsWritten text field
         → IsSomeAnd result (λ x. IsWordFrom text (place_of_word text field) x.1.start x.1.text.now × (x.1.text.now ≡ word_at text (place_of_word text field))) }
@@ -351,8 +351,8 @@ fn word_of<'t>(words: &[Piece<'t>], field: PatternField) -> Option<(usize, Piece
     Some((place, *word))
 }
 
-/// The first character of a field's word that is not legal there, or the `@` of a text with one: it may get fields that are
-/// not written.
+/// The first character of a field's word that is not legal there, or the `@` of a text with one, since that may get fields
+/// that aren't written.
 fn illegal_character(
     alloc: Global,
     parser: &CronParser,
@@ -394,7 +394,7 @@ fn at_sign(start: usize) -> Finding
     }
 }
 
-/// That a text has another line, where there is nothing else to say but of a command.
+/// The hint that a text has another line, in place of none, or of one on a command.
 fn hint_of_lines(text: &str, hint: Hint) -> Hint {
     if hint != Hint::None && hint != Hint::Command {
         return hint;
@@ -407,7 +407,7 @@ fn hint_of_lines(text: &str, hint: Hint) -> Hint {
     }
 }
 
-/// Why such a character may stand where it is not legal.
+/// Why such a character may be where it is not legal.
 fn hint_of_character(c: char) -> Hint {
     match c {
         'L' | 'W' | '?' | '#' | '+' => Hint::SignElsewhere { sign: c },
@@ -418,8 +418,8 @@ fn hint_of_character(c: char) -> Hint {
     }
 }
 
-/// A character that is not legal in its field, in capitals, and its place in the text; the name that stands right in front of
-/// it, whether a value stands there, and whether a letter stands beside it.
+/// A character that is not legal in its field, in capitals, with its place in the text. Also the name that ends right
+/// before it, whether a value does, and whether there is a letter beside it.
 #[derive(Clone, Copy)]
 struct Illegal {
     c: char,
@@ -431,7 +431,7 @@ struct Illegal {
 }
 
 impl Illegal {
-    /// What was expected in place of the character, which stands in the word at a place.
+    /// What was expected instead of the character, given the place of its word.
     fn expected(
         self,
         place: usize,
@@ -455,7 +455,7 @@ impl Illegal {
         }
     }
 
-    /// Why the character may stand in the word at a place.
+    /// Why the character may be in the word at a place.
     fn hint(self, place: usize, words: &[Piece<'_>], field: PatternField) -> Hint {
         let hint = hint_of_character(self.c);
         if place >= LEAST_FIELDS && !self.is_sign_of_value(hint) {
@@ -477,7 +477,7 @@ impl Illegal {
         }
     }
 
-    /// Whether it is no command that begins here: a `?`, or a sign or a dash behind a value.
+    /// Whether no command begins here: it is a `?`, or a sign or a dash after a value.
     fn is_sign_of_value(self, hint: Hint) -> bool {
         match hint {
             Hint::SignElsewhere { .. } => {
@@ -488,7 +488,7 @@ impl Illegal {
         }
     }
 
-    /// The step in front of a unit of the field, as 5 of `*/5m` in the minutes.
+    /// The step before a unit of the field, as 5 in `*/5m` in the minutes.
     fn step_of(self, words: &[Piece<'_>], place: usize, field: PatternField) -> Option<u16> {
         let unit = match field {
             PatternField::Seconds => 'S',
@@ -510,7 +510,7 @@ impl Illegal {
         }
     }
 
-    /// That a name goes on, and is one of another field.
+    /// The hint that a name, with more letters after it, is one of another field.
     fn hint_of_name(self, field: PatternField) -> Hint {
         match self.name {
             Some(name) if self.c.is_ascii_uppercase() && !is_name_of(name, field) => {
@@ -534,7 +534,7 @@ fn ends_value(c: char) -> bool {
     c.is_ascii_digit() || c == 'L'
 }
 
-/// Whether a character and what stands behind it are `LW`.
+/// Whether a character and what follows it are `LW`.
 fn is_last(c: char, rest: &str) -> bool {
     c == 'L' && rest == "W"
 }
@@ -549,7 +549,7 @@ fn is_name_of(name: &str, field: PatternField) -> bool {
     }
 }
 
-/// The first character of a word that is in no name and not legal in the field; nothing where there is none.
+/// The first character of a word that is in no name and not legal in the field; `None` if there is none.
 fn illegal_in_word(
     alloc: Global,
     word: Piece<'_>,
@@ -577,8 +577,8 @@ fn illegal_in_word(
     }))
 }
 
-/// The byte of a word from which on its field doesn't take it, and its length where the field takes all. The word is handed in
-/// in capitals too.
+/// The byte at which a word's field stops accepting it, or the word's length if the field accepts all. `raised` is the word in
+/// capitals.
 fn illegal_at(word: &str, raised: &str, field: PatternField) -> usize
     requires { raised.now ≡ str_to_ascii_uppercase word.now }
     ensures { IsIllegalFrom field word.now result }
@@ -646,7 +646,7 @@ fn refused_part(
     Ok(found_within(text, found, written, expected))
 }
 
-/// The place of a piece that lies in another one, and else of this other.
+/// The place of a piece that lies within another one, or else that of the other.
 fn found_within(text: &str, piece: Piece<'_>, whole: Piece<'_>, expected: Expected) -> Finding
     requires small { whole.start + length whole.text.now < 2 ^ 64 }
     requires whole { IsWithin text.now whole.start (whole.start + length whole.text.now) whole.start (whole.start + length whole.text.now) }
@@ -664,7 +664,7 @@ fn found_within(text: &str, piece: Piece<'_>, whole: Piece<'_>, expected: Expect
     whole.found(expected)
 }
 
-/// The part of a word at a place from 0, without the sign in front of the word.
+/// The part of a word at a place from 0, without the sign before the word.
 fn part_of(word: Piece<'_>, field: PatternField, part: usize) -> Option<Piece<'_>>
     requires { word.start + length word.text.now < 2 ^ 64 }
     ensures { has_part part (without_sign field word.entry.text.now) ≡ true → IsSomeAnd result (λ p. IsPartIn word.entry.text.now word.entry.start part p) }
@@ -696,7 +696,7 @@ fn part_from(list: Piece<'_>, part: usize) -> Option<Piece<'_>>
     part_from(rest, part - 1)
 }
 
-/// Why a refused part may stand in the word at a place: a space beside a sign, or six fields that end in a year.
+/// Why a refused part may be in the word at a place: a space beside a sign, or six fields that end in a year.
 fn hint_of(year: Year, field: PatternField, words: &[Piece<'_>], place: usize) -> Hint {
     let before = match place.checked_sub(1) {
         Some(before) => text_at(words, before),

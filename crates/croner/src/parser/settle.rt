@@ -1,4 +1,4 @@
-//! The third step: the signs `?` and `+` of the day fields are settled. Also what is settled behind the last step:
+//! The third step: the signs `?` and `+` of the day fields are settled. Also what is settled after the last step:
 //! Sunday as 7.
 
 ghost use Rattle.std.specs.Prelude.{◌≡◌, ℕ, ◌||◌, ◌==◌, true, false, fold, IfOk, IsOk, MatchOption, string_bytes, if◌then◌else◌};
@@ -17,10 +17,10 @@ use croner_base::component::{
 use croner_base::errors::CronError;
 use std::alloc::{AllocError, Global};
 
-/// The place that Sunday has as 7.
+/// The value of Sunday as 7.
 const SUNDAY_AS_SEVEN: u16 = 7;
 
-/// What the signs of the day fields say: copies of these fields, where they have a `?`, and whether both have to fit.
+/// What the signs of the day fields mean: copies of these fields, if they have a `?`, and whether both have to fit.
 #[derive(Drop)]
 pub struct Settled {
     days: Option<String>,
@@ -47,7 +47,7 @@ impl Settled {
 }
 
 impl CronParser {
-    /// The day fields with `*` for each `?`, and without one `+` in front of the weekdays.
+    /// The day fields with `*` for each `?`, and without one `+` before the weekdays.
     pub(super) fn settle(
         &self,
         alloc: Global,
@@ -84,7 +84,7 @@ pub fn has_plus(text: &str) -> bool
     }
 }
 
-/// The text without one `+` in front.
+/// The text without one leading `+`.
 pub fn without_plus(text: &str) -> &str
     ensures { result.now ≡ without_plus text.now }
 {
@@ -94,7 +94,7 @@ pub fn without_plus(text: &str) -> &str
     }
 }
 
-/// The text with `*` in the place of each `?`, where it has one.
+/// The text with `*` in place of each `?`, if it has one.
 pub fn starred(alloc: Global, text: &str) -> Result<Option<String>, AllocError>
     ensures { IfOk result (λ t. MatchOption t (starred text.now ≡ text.now) (λ t. string_bytes t ≡ starred text.now)) }
 {
@@ -122,7 +122,7 @@ pub fn is_star(text: &str) -> bool
     text == "*"
 }
 
-/// Stores weekday 7 as 0, for every modifier; in Quartz mode it stays.
+/// Moves weekday 7 to 0, for every modifier; in Quartz mode it stays.
 pub fn settle_weekdays(weekdays: &mut CronComponent, quartz: bool) -> Result<(), CronError>
     requires { quartz ≡ false → (bit : ℕ) → has_all 127 bit ≡ true → TakesSunday weekdays.old.shape bit }
     ensures ok { IsOk result }
@@ -140,7 +140,7 @@ pub fn settle_weekdays(weekdays: &mut CronComponent, quartz: bool) -> Result<(),
     move_sunday(weekdays, LAST_BIT)
 }
 
-/// Stores weekday 7 with one modifier as 0.
+/// Moves weekday 7 with one modifier to 0.
 fn move_sunday(weekdays: &mut CronComponent, bit: u8) -> Result<(), CronError>
     requires { TakesSunday weekdays.old.shape bit }
     ensures ok { IsOk result }

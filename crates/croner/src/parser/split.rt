@@ -11,7 +11,7 @@ use super::stop::{Cause, Stop};
 use super::{CronParser, Seconds, Year};
 use std::alloc::{AllocError, Global};
 
-/// The words as fields: where there are five the seconds are `0`, and where there are five or six the year is `*`.
+/// The words as fields: with five words the seconds are `0`, and with five or six the year is `*`.
 pub fn seven<'t>(words: &[&'t str]) -> Option<FieldTexts<'t>>
     ensures { option_map texts_of result ≡ seven (map (λ w. w.now) words.now) }
 {
@@ -73,7 +73,7 @@ impl CronParser {
         }
     }
 
-    /// The words as fields, where the settings accept so many.
+    /// The words as fields, if the settings accept that many.
     pub(super) fn fields_of<'t>(&self, words: &[&'t str]) -> Option<FieldTexts<'t>>
         ensures { option_map texts_of result ≡ fields_of self.now (map (λ w. w.now) words.now) }
     {

@@ -6,14 +6,14 @@ use std::alloc::AllocError;
 /// Why a text is refused, and where: the field that refused it, and the part of the field's list.
 #[derive(Clone, Copy, Drop)]
 pub enum Cause {
-    /// Nothing but white space.
+    /// Only white space.
     Empty,
     /// A count of fields that the settings don't accept.
     Invalid,
     /// A character that is not legal in this field, the first that has one.
     Illegal(PatternField),
-    /// A text that this field can't read, the first of these, and how many parts of its list stand in front of the first that it
-    /// can't.
+    /// A text that this field can't read, the first such field, and how many parts of its list come before the first that can't
+    /// be read.
     Component(PatternField, usize),
 }
 
@@ -34,7 +34,7 @@ impl Cause {
         }
     }
 
-    /// The field that refused the text, where one did.
+    /// The field that refused the text, if one did.
     pub fn field(self) -> Option<PatternField>
         ensures { result ≡ refused_by (refusal_of self) }
     {

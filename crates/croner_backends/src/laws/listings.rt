@@ -1,4 +1,4 @@
-//! Iterators over the two backends: their items begin the listing of the runs on the clocks of their tables.
+//! Iterators over the two backends: their items are the first runs on the clocks of their tables.
 ghost use Rattle.std.specs.Prelude.{◌≡◌, ◌≤◌, ◌<◌, ◌⊎◌, None, true, false, IsTrue, IfOk, IfErr, length};
 ghost use Rattle.std.specs.List.{All};
 ghost use Rattle.croner.specs.iterator.Faults.{IsMemoryAlone};
@@ -14,11 +14,11 @@ use croner::errors::CronError;
 use croner::laws::listing::next_runs;
 use std::alloc::Global;
 
-/// The items of up to so many calls of `next` over the backend that takes memory, whatever memory they find, and whether the
-/// last call said that nothing is left: they begin the listing of what the iterator had yet to give, it goes on with the rest,
-/// and where nothing is said to be left they are all of it. Each is a whole second on the clock of the table. Where what the search
-/// from the start needs is held, the only fault is want of memory. The only error is `OutOfMemory`, for the room of the items, which
-/// is taken first: the iterator then stands where it stood.
+/// The items of up to `calls` calls of `next` over the backend that takes memory, however much there is, and whether the last call
+/// said that nothing is left. The items are the first that the iterator had yet to give, and it goes on with the rest; if nothing is
+/// said to be left, they are all of it. Each is a whole second on the clock of the table. If what the search from the start needs is
+/// held, the only fault is lack of memory. The only error is `OutOfMemory`, since memory for the items is taken first; the iterator
+/// is then unchanged.
 pub fn next_boxed_runs<'t>(
     alloc: Global,
     iterator: &mut CronIterator<BoxedTime<'t>>,
@@ -41,7 +41,7 @@ pub fn next_boxed_runs<'t>(
     next_runs(alloc, iterator, calls)
 }
 
-/// The same over the backend that holds little, whatever it holds. Where it holds what the search from the start needs, there is an
+/// The same over the backend that holds little, whatever it holds. If it holds what the search from the start needs, there is an
 /// item for each call, or the items are all that is left, and there is no fault.
 pub fn next_narrow_runs<'t>(
     alloc: Global,

@@ -1,5 +1,5 @@
-//! What the two backends keep of their tables, and what searches over them answer, each as the contract of a small public
-//! function.
+//! What the two backends have in common with their tables, and what searches over them answer, each the contract of a
+//! small public function.
 
 pub mod clocks;
 pub mod listings;

@@ -17,9 +17,9 @@ use croner::errors::CronError;
 use croner::laws::searches::found_or_refused;
 use croner::{Cron, Direction};
 
-/// What a search over the backend that takes memory answers, whatever memory it finds: the nearest run on the clock of the
-/// table; the limit, where none is left in the searched years; `OutOfMemory`; or, only from a start that reads a year before
-/// -9997 or after 9997, `InvalidDate` or `InvalidTime`.
+/// What a search over the backend that takes memory answers, however much there is: the nearest run on the clock of the
+/// table; the limit, if none is left in the searched years; or `OutOfMemory`. Only from a start that reads a year before
+/// -9997 or after 9997 can it also be `InvalidDate` or `InvalidTime`.
 pub fn nearest_boxed_run<'t>(
     job: &Cron,
     start: &BoxedTime<'t>,
@@ -38,8 +38,8 @@ pub fn nearest_boxed_run<'t>(
 }
 
 /// What a search over the backend that holds little answers, whatever it holds: the nearest run on the clock of the table;
-/// the limit, where none is left in the searched years; or `InvalidDate` or `InvalidTime`, where something that the search
-/// had to ask for is not held, which never comes where the backend holds what a search needs.
+/// or the limit, if none is left in the searched years. Where the backend doesn't hold something that the search needs, it
+/// can also be `InvalidDate` or `InvalidTime`.
 pub fn nearest_narrow_run<'t>(
     job: &Cron,
     start: &NarrowTime<'t>,

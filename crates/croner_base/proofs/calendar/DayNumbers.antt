@@ -99,7 +99,7 @@ months_before y m h =
       (λ early. let b : nat_lt 1 (m - 1) ≡ false = grind (arith, nat_tests) in (rw b at t) ∙ add-zero _),
     )
 
--- the place of a date is the days of that table, the leap day that is behind it, and its own day
+-- the place of a date is the days of that table, the leap day once it is past, and its own day
 pub place_late : (y : ℤ) (m d leap_day : ℕ) (b : Bool) → IsInRange 1 12 m → 2 < m → b ≡ is_leap_year y → leap_day ≡ bool_byte b → get_or (0 ∷ 31 ∷ 59 ∷ 90 ∷ 120 ∷ 151 ∷ 181 ∷ 212 ∷ 243 ∷ 273 ∷ 304 ∷ 334 ∷ []) (m - 1) 0 + leap_day + d ≡ day_of_year y m d
 place_late y m d leap_day true h late e g = omega (arith, (months_before y m h).0 late (sym e), g)
 place_late y m d leap_day false h late e g = omega (arith, (months_before y m h).1 late (sym e), g)

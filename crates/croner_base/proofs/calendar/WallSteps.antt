@@ -17,7 +17,7 @@ last_of_year a month last =
     let below : a.day ≤ 31 = rw month at a.real.1.1 in
     omega arith
 
--- b is the day after a: in its month, its year, and behind its year
+-- b is the day after a: in its month, its year, and after its year
 module _ (a b : CivilDate) where
   pub after_day : b.year ≡ a.year → b.month ≡ a.month → b.day ≡ a.day + 1 → day_of_date b ≡ day_of_date a +ℤ pos 1
   after_day f g h = rw (f, g, h) (day_number-day a.year a.month a.day 1)

@@ -71,7 +71,7 @@ bounds_refused tag step left =
     wants_refused ((leb 0 range.0 && leb range.1 0) && leb range.0 range.1) (stepped_marks none tag range.0 range.1 step)
     (first_refused (all_marked none tag (stepped range.0 ((range.1 - range.0) / step) step)) (wants (nat_lt (range.0 + ((range.1 - range.0) / step + 1) * step) 65536) nothing) (steps_refused tag range.0 ((range.1 - range.0) / step) step)))
 
--- what a part with a `/` reads behind its sides
+-- what a part with a `/` reads after its sides
 sided : ℕ → List ℕ × List ℕ → ℕ → Reading
 sided tag sides step =
     did (steps step)

@@ -57,7 +57,7 @@ place_boundary sign bs = elim (cases_lt (place_in sign bs) (length bs)) [
 pub front-boundary : (sign : Sign) (bs : List ℕ) (s : Signs) → AreSigns bs s → IsCharBoundary bs (place_of s sign)
 front-boundary sign bs s h = subst (IsCharBoundary bs) (sym (h sign)) (place_boundary sign bs)
 
--- and behind it
+-- and after it
 pub back-boundary : (sign : Sign) (bs : List ℕ) (s : Signs) → AreSigns bs s → IsUtf8 bs → place_of s sign < length bs → IsCharBoundary bs (place_of s sign + 1)
 back-boundary sign bs s h utf8 within =
     subst (λ n. IsCharBoundary bs (n + 1)) (sym (h sign))

@@ -53,7 +53,7 @@ more_marks shape bits v e step s h l b =
     ∙ ap (λ b. marked shape bits v then wants b (stepped_marks shape bits (v + step) e step)) (sym fits)
     ∙ ap (λ b. marked shape bits v then wants (ltb (v + step) 65536) (cond b (stepped_marks shape bits (v + step) e step) nothing)) (sym on)
 
--- the front is marked, and the rest goes on behind it
+-- the front is marked, and the rest goes on after it
 pub stepped_marks-more : (shape : Shape) (bits v e step : ℕ) → 0 < step → v ≤ e → e < 65536 → stepped_marks shape bits v e step ≡ marked shape bits v then after_mark shape bits v e step
 stepped_marks-more shape bits v e step s h b = elim (cases_lt (e - v) step) [
   | inl l ↦ last_mark shape bits v e step s h l

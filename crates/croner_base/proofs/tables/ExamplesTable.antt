@@ -36,7 +36,7 @@ one_second : (instants_of (pos 7_200) ((pos 0, pos 7_199) ∷ []) (pos 7_199) �
     × (instants_of (pos 7_200) ((pos 0, pos 7_199) ∷ []) (pos 7_200) ≡ Single (pos 1))
 one_second = (refl, refl, refl)
 
--- a wall second a day behind a change is looked for around it, the next one by the offset after it alone: each is read once
+-- a wall second a day after a change is looked for around it, the next one by the offset after it alone: each is read once
 a_day_behind : (instants_of (pos 0) ((pos 0, pos 3_600) ∷ []) (pos offset_limit) ≡ Single (pos 82_800))
     × (instants_of (pos 0) ((pos 0, pos 3_600) ∷ []) (pos (offset_limit + 1)) ≡ Single (pos 82_801))
 a_day_behind = (refl, refl)

@@ -40,7 +40,7 @@ calm_parts o cs h =
     let p = both_parts _ _ m.0 in
     record { offset_in = p.0; changes = p.1; few = leb-true _ _ m.1; few_seconds = leb-true _ _ g.1 }
 
--- the first change, where there is one, lies at an instant or behind it
+-- the first change, where there is one, lies at an instant or after it
 abbrev is_late : ℤ → List (ℤ × ℤ) → Bool
 is_late e [] = true
 is_late e (c ∷ cs) = int_le e c.0

@@ -14,7 +14,7 @@ use Rattle.croner_base.proofs.tables.TableCheck.{first_change, calm_parts}
 use Rattle.croner_base.proofs.tables.TableOffsets.{offset_within, stays}
 use Rattle.croner_base.proofs.tables.TableTests.{lt_of, le_of, le_test, le_false, lt_test, lt_false, lt_tells, offset_bounds}
 
--- the others lie behind the first change
+-- the others lie after the first change
 pub behind : (c : ℤ × ℤ) (cs : List (ℤ × ℤ)) (j : ℕ) (d : ℤ × ℤ) → j < length cs → is_apart c cs ≡ true → are_changes c.1 cs ≡ true → c.0 <ℤ (get_or cs j d).0
 behind c [] j d lt a h = absurd (omega arith)
 behind c (e ∷ es) zero d lt a h = let l = lt_of (c.0 +ℤ pos apart_limit) e.0 a in omega (arith, signed_arith, l)
@@ -91,7 +91,7 @@ calm_offsets o cs h = (h, (calm_parts o cs h).offset_in, λ k d lt. each_offset 
 
 pub ruleset offsets = (ints, to_z-of_z, calm_offsets)
 
--- at a change and behind it the others decide, before it the first offset is in force
+-- at a change and after it the others decide, before it the first offset is in force
 pub passed : (o : ℤ) (c : ℤ × ℤ) (cs : List (ℤ × ℤ)) (i : ℤ) → c.0 ≤ℤ i → offset_at o (c ∷ cs) i ≡ offset_at c.1 cs i
 passed o c cs i h = let t = le_test c.0 i h in rw t
 

@@ -64,7 +64,7 @@ grows : (s k d : ℕ) → rows_below s k ≤ rows_below s (d + k)
 grows s k zero = let e : 0 + k ≡ k = omega arith in omega (arith, ap (rows_below s) e)
 grows s k (suc d) = let e : suc d + k ≡ suc (d + k) = omega arith in omega (arith, ap (rows_below s) e, rows_below-suc s (d + k), grows s k d)
 
--- a supported modifier's row stands below all that come behind it
+-- a supported modifier's row stands below all that come after it
 pub row_before : (s k n : ℕ) → bit_at s k ≡ 1 → k < n → rows_below s k + 1 ≤ rows_below s n
 row_before s k n one h =
     let e : (n - suc k) + suc k ≡ n = omega arith in

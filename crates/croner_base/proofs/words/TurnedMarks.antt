@@ -62,7 +62,7 @@ both_masks from to first last n masks_from masks_to = record {
   only = λ b h is. (masks_from.only b h (omega (arith, bit_at_and from to b, bit_at-lt from b, bit_at-lt to b)), masks_to.only b h (omega (arith, bit_at_and from to b, bit_at-lt from b, bit_at-lt to b)));
 }
 
--- and the last one alone behind it
+-- and the last one alone after it
 last_mask_alone : (to first last n : ℕ) → first ≤ n * 64 → MasksTo to last n → Masks to n (InRange first last)
 last_mask_alone to first last n behind masks = record { on = λ b h both. masks.on b h both.1; only = λ b h is. (omega arith, masks.only b h is) }
 
@@ -98,7 +98,7 @@ row_first xs start first last n from to e masks_from masks_to within =
     let none : TurnsRow 1 xs xs start first (min (n * 64) (last + 1)) = record { inside = λ i b h above below. absurd (omega arith); kept = λ p b h outside. refl } in
     row_more xs xs start first last n (bit_and from to) none (both_masks from to first last n masks_from masks_to) within
 
--- and one behind it
+-- and one after it
 pub row_next : (xs ys : List ℕ) (start first last n to : ℕ) → first ≤ n * 64 → TurnsRow 1 xs ys start first (min (n * 64) (last + 1)) → MasksTo to last n
     → start + n < length ys → TurnsRow 1 xs (with_mask ys (start + n) to) start first (min ((n + 1) * 64) (last + 1))
 row_next xs ys start first last n to behind done masks within = row_more xs ys start first last n to done (last_mask_alone to first last n behind masks) within

@@ -35,7 +35,7 @@ shown_within : offset_at (pos 0) (changes_after moved (pos 0) 12) (pos 9) ≡ po
 unfolding changes_after
 shown_within = refl
 
--- before it and behind it
+-- before it and after it
 nearest_before : nearest_in (pos 5) (pos 7) (pos 0) ≡ pos 5
 nearest_before = refl
 

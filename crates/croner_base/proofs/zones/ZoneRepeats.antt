@@ -99,7 +99,7 @@ zone_repeats (OfTable z) from low h = λ i le high. ap (λ (o : Offset). o.secon
 
 -- ---- changes
 
--- the changes of two stretches, one behind the other
+-- the changes of two stretches, one after the other
 changes_split : (f : ℤ → ℤ) (first : ℤ) (a b : ℕ) → changes_after f first (a + b) ≡ changes_after f first a ++ changes_after f (first +ℤ pos a) b
 changes_split f first a zero =
     let none : a + 0 ≡ a = omega arith in
@@ -122,7 +122,7 @@ window_split tz first mid last low high =
     ap (λ m. changes_after (ahead_at tz) first m) all ∙ changes_split (ahead_at tz) first (unsigned_abs (mid -ℤ first)) (unsigned_abs (last -ℤ mid))
     ∙ ap (λ (i : ℤ). window_changes tz first mid ++ changes_after (ahead_at tz) i (unsigned_abs (last -ℤ mid))) at
 
--- two stretches of a window, behind what was there
+-- two stretches of a window, after what was there
 pub joined_part : (tz : TimeZone) (first mid last : ℤ) (old : List (ℤ × ℤ)) → first ≤ℤ mid → mid ≤ℤ last → (old ++ window_changes tz first mid) ++ window_changes tz mid last ≡ old ++ window_changes tz first last
 joined_part tz first mid last old low high = append_assoc old (window_changes tz first mid) (window_changes tz mid last) ∙ ap (λ l. old ++ l) (sym (window_split tz first mid last low high))
 
@@ -184,7 +184,7 @@ copied old now more first place x low lt is at =
     let from : first + (place - first) ≡ place = omega (arith, low) in
     at ∙ ap (λ l. get_or l place x) is ∙ get_or_append_left old more x place lt ∙ sym (get_or-drop first old (place - first) x ∙ ap (λ i. get_or old i x) from)
 
--- and is put behind it again
+-- and is put after it again
 pub copied_more : (old now : List (ℤ × ℤ)) (first place : ℕ) (x : ℤ × ℤ) → first ≤ place → place < length old → now ≡ old ++ map again (take (place - first) (drop first old)) → x ≡ get_or now place x
     → now ++ again x ∷ [] ≡ old ++ map again (take (place + 1 - first) (drop first old))
 copied_more old now first place x low lt is at =

@@ -114,7 +114,7 @@ table_stays_by : (z : Tzif) (o : Option Rule) (k : ℕ) (n m : ℤ) → IsTimest
 table_stays_by z None k n m hn hm le y h = refl
 table_stays_by z (Some tz) k n m hn hm le y h = rule_stays tz n m hn hm le y h
 
--- so does a table with a rule behind it
+-- so does a table with a rule after it
 pub table_stays : (z : Tzif) (n m : ℤ) → IsTimestampNanos n → IsTimestampNanos m → n ≤ℤ m → year_of_nanos m ≡ year_of_nanos n → IfSome (Table.next_at z n) (λ t. m <ℤ t.0) → Table.offset_at z m ≡ Table.offset_at z n
 table_stays z n m hn hm le y h =
     let k = count_at z (floor_second n) in

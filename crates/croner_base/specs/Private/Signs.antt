@@ -51,7 +51,7 @@ up_to s end = record {
 abbrev pub AreSigns : List ℕ → Signs → Type 0
 AreSigns text s = (sign : Sign) → place_of s sign ≡ position_or_len (λ b. b == byte_of sign) text
 
--- what the tests for the signs say of a part of this form, one behind the other
+-- what the tests for the signs say of a part of this form, one after the other
 abbrev pub IsForm : List ℕ → Form → Type 0
 IsForm part Step = contains_byte slash part ≡ true
 IsForm part Range = (contains_byte slash part ≡ false) × (contains_byte dash part ≡ true)

@@ -21,11 +21,11 @@ mod row;
 mod rows;
 mod words;
 
-/// For each value from 0 to the maximum the modifiers that it is marked with. A maximum of 0 leaves no value.
+/// The modifiers with which each value from 0 to the maximum is marked. A maximum of 0 leaves no value.
 ///
-/// The words stand in place where a row has one word, with a row for each of the eight modifiers, and else in one
-/// piece of memory, with a row for each supported modifier, one after another. What isn't used is zero or empty: a
-/// clone takes both over without asking which it is.
+/// Where a row is one word, the words are kept in place, with a row for each of the eight modifiers. Otherwise
+/// they are in one allocation, with a row for each supported modifier. The one that isn't used is zero or empty,
+/// so a clone copies both without asking which it is.
 pub struct Marks {
     in_place: [u64; MODIFIERS],
     on_heap: Vec<u64>,
@@ -42,7 +42,7 @@ impl Model for Marks {
     ghost invariant = { λ c. (length (words_of c.is_in_place c.in_place c.on_heap.items) ≡ rows_below (rows_of c.is_in_place c.supported) 8 * width c.max) × (c.is_in_place ≡ (width c.max == 1)) };
 }
 
-// By hand, so that a function that lets marks go calls this one.
+// By hand, so that a function that drops marks calls this one.
 impl Drop for Marks {
     fn drop(self) {
         let Marks {
@@ -167,7 +167,7 @@ impl Marks {
         }
     }
 
-    /// Takes each modifier of `bits` off the value.
+    /// Removes each modifier of `bits` from the value.
     pub fn unset(&mut self, value: u16, bits: u8)
         requires within { value < room self.old.max }
         requires are_supported { bit_and self.old.supported bits ≡ bits }
@@ -274,7 +274,7 @@ impl Marks {
     }
 }
 
-// The words that are used, and not where the others stand.
+// The words that are used, not the unused ones.
 impl fmt::Debug for Marks {
     fn fmt<W: fmt::Write>(&self, f: &mut fmt::Formatter<W>) -> fmt::Result {
         let words = if self.is_in_place {

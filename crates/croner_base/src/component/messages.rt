@@ -1,5 +1,5 @@
-//! The refusals of a component. Each names what was wrong in the text and what was expected in its place, and repeats no
-//! more of the text than an excerpt.
+//! The refusals of a component. Each names what was wrong in the text and what was expected instead, and quotes at most
+//! an excerpt of the text.
 
 ghost use Rattle.croner_base.specs.Answers.{IsFieldError};
 

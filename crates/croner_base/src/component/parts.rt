@@ -14,26 +14,27 @@ use super::{
 };
 use crate::errors::CronError;
 
-/// The part of a list that a field refused: how many stand in front of it, empty ones counted too, and why.
+/// The part of a list that a field refused, and why.
 #[derive(Debug, Drop)]
 pub struct RefusedPart {
-    /// Its place among the parts, from 0.
+    /// Its index among the parts, from 0, empty parts counted too.
     pub part: usize,
     /// The error of [`CronComponent::parse`].
     pub error: CronError,
 }
 
 impl CronComponent {
-    /// Adds the marks that a field's text names to those that stand already.
+    /// Adds the marks that a field's text names to those already set.
     ///
-    /// A lone `*` marks every value plain and sets the wildcard mark. Any other text is a list split at commas, each
-    /// part trimmed, empty parts skipped: numbers, ranges `a-b`, steps `*/n` and `a-b/n`, each of these also with `#1` to
-    /// `#5` or `#L` behind it for the nth or the last such weekday, numbers with `L` for the last one, nearest weekdays
-    /// `nW`, and `L` and `LW`. Where ranges are sloppy, steps are `a/n` and `/n` too.
+    /// A lone `*` marks every value plain and sets the wildcard mark. Any other text is a list, split at commas; each
+    /// part is trimmed, and empty parts are skipped. A part is a number, a range `a-b`, or a step `*/n` or `a-b/n`.
+    /// Each of these may end with `#1` to `#5` or `#L`, for the nth or the last such weekday. A part can also be a
+    /// number with `L` for the last one, a nearest weekday `nW`, `L` or `LW`. With sloppy ranges `a/n` and `/n` are
+    /// steps too.
     ///
     /// `ComponentError` at the first part that has none of these forms, is out of bounds or asks for a modifier that
-    /// isn't supported; `OutOfMemory` where its message finds no memory. Either leaves the marks, features, step and
-    /// wildcard mark that were made up to the fault. An accepted call takes no memory.
+    /// isn't supported; `OutOfMemory` where there is no memory for its message. After either error the marks,
+    /// features, step and wildcard mark made before the fault stay. A call that succeeds allocates nothing.
     ///
     /// ```
     /// let mut days = CronComponent::new(alloc, 1, 31, CLOSEST_WEEKDAY_BIT, 0)?;
@@ -50,10 +51,10 @@ impl CronComponent {
         }
     }
 
-    /// [`parse`](Self::parse), with the place of the part that is refused: how many parts of the list stand in front of it, empty
-    /// ones counted too. It is 0 where a lone `*` is refused.
+    /// [`parse`](Self::parse), whose error also gives the index of the refused part: how many parts of the list come before it,
+    /// empty ones counted too. It is 0 where a lone `*` is refused.
     ///
-    /// What it reads, what it refuses and what a refusal leaves are those of `parse`.
+    /// It reads and refuses the same texts as `parse`, and leaves the same after an error.
     ///
     /// ```
     /// let mut minutes = CronComponent::new(alloc, 0, 59, NONE_BIT, 0)?;
@@ -80,12 +81,13 @@ impl CronComponent {
         }
     }
 
-    /// Adds the marks of one part with a `/`, which isn't trimmed: `*/n`, `a-b/n`, and where ranges are sloppy also
-    /// `a/n` and `/n`. The number behind the `/` becomes the step, also where what follows is refused.
+    /// Adds the marks of one part with a `/`: `*/n`, `a-b/n`, and with sloppy ranges also `a/n` and `/n`. The part
+    /// isn't trimmed. The number after the `/` becomes the step, even if the part is then refused.
     ///
-    /// `ComponentError` where the part hasn't that form, the step is 0, the range is out of bounds, a mark is refused,
-    /// or the value after the last mark passes 65535; `OutOfMemory` where its message finds no memory. Either leaves
-    /// the step, the wildcard mark and the marks that were made up to the fault. An accepted call takes no memory.
+    /// `ComponentError` where the part doesn't have that form, the step is 0, the range is out of bounds, a mark is
+    /// refused, or the value after the last mark would exceed 65535; `OutOfMemory` where there is no memory for its
+    /// message. After either error the step, the wildcard mark and the marks made before the fault stay. A call that
+    /// succeeds allocates nothing.
     ///
     /// ```
     /// let mut minutes = CronComponent::new(alloc, 0, 59, NONE_BIT, 0)?;
@@ -149,7 +151,7 @@ impl CronComponent {
         self.handle_sides(&left, step, bit, text)
     }
 
-    // What a part does whose `/` has this on its left, and this number on its right.
+    // What a part does, by the text to the left of its `/` and the number to the right.
     #[tactic(auto, using(crate::proofs::fields::SteppedParts::marks_behind_step))]
     fn handle_sides(
         &mut self,
@@ -170,7 +172,7 @@ impl CronComponent {
         self.mark_from(left, step, bit, part)
     }
 
-    // The marks of a step whose `/` has this on its left.
+    // The marks of a step, by the text to the left of its `/`.
     fn mark_from(
         &mut self,
         left: &Part<'_>,

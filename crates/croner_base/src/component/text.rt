@@ -68,7 +68,7 @@ impl Signs {
         }
     }
 
-    /// The place of each sign in a text that has one more byte in front, at a place.
+    /// The place of each sign once one more byte, at a place, is put in front of the text.
     #[inline(always)]
     fn met(self, byte: u8, at: usize) -> Signs
         ensures { result ≡ met self byte at }
@@ -82,7 +82,7 @@ impl Signs {
         }
     }
 
-    /// The places in the front of a text, up to its end.
+    /// The places within the beginning of a text, up to an end.
     #[inline(always)]
     fn up_to(self, end: usize) -> Signs
         ensures { result ≡ up_to self end }
@@ -124,7 +124,7 @@ fn lesser(place: usize, end: usize) -> usize
     if place < end { place } else { end }
 }
 
-/// The first place of each sign, or the length where it stands nowhere, in one pass from the end.
+/// The first place of each sign, or the length where it isn't there, in one pass from the end.
 fn signs_of(text: &[u8]) -> Signs
     ensures { AreSigns text.now result }
 {
@@ -177,7 +177,7 @@ impl<'t> Part<'t> {
         self.signs.place(sign) < self.text.len()
     }
 
-    /// What stands in front of the first such sign, or all where there is none.
+    /// The text before the first such sign, or all of it where there is none.
     #[inline(always)]
     pub(super) fn before(&self, sign: Sign) -> Part<'t>
         ensures { result ≡ before_first (λ b. b == byte_of sign) self.now }
@@ -189,7 +189,7 @@ impl<'t> Part<'t> {
         }
     }
 
-    /// What stands behind the first such sign, or nothing where there is none.
+    /// The text after the first such sign, or nothing where there is none.
     #[inline(always)]
     pub(super) fn after(&self, sign: Sign) -> &'t str
         ensures { result.now ≡ after_first (λ b. b == byte_of sign) self.now }

@@ -11,9 +11,9 @@ ghost use Rattle.croner_base.specs.Limits.{first_year, last_year};
 use crate::time::{CivilDate, CivilDateTime, CivilTime, Weekday};
 use std::cmp::Ordering;
 
-/// The day number of a date is the count of real dates from 1970-01-01, negative before it: that date is day 0, the
-/// next day of a month is one more, the first of a month is one more than the last of the month before it, and so is
-/// 1 January after 31 December.
+/// The day number of a date is the count of real dates from 1970-01-01, negative before it. That date is day 0, and
+/// the next day of a month is one more. The first of a month is one more than the last of the month before it, and
+/// so is 1 January after 31 December.
 pub fn day_numbers_count_dates()
     ensures epoch { day_number (pos 1970) 1 1 ≡ pos 0 }
     ensures next_day { (year : ℤ) (month day : ℕ)
@@ -72,15 +72,14 @@ pub fn wall_second_has_one_date_time(left: CivilDateTime, right: CivilDateTime)
     ensures { wall_second left ≡ wall_second right → left ≡ right }
 {}
 
-/// A civil date-time is of a year or a later one exactly from the year's first second on.
+/// A civil date-time has a year or a later one exactly from that year's first second on.
 pub fn year_begins_on_its_first_day(civil: CivilDateTime)
     ensures { (year : ℤ)
         → (year ≤ℤ civil.date.year) ↔ ((day_number year 1 1 *ℤ pos day_seconds) ≤ℤ wall_second civil) }
 {}
 
-/// The wall seconds that a pattern can name are those of the years 1 to 5000, those that a search needs held wherever it
-/// starts are those of the years 0 to 5001, and the starts around which the laws say that all is held that a search needs
-/// are those of the years -9997 to 9997.
+/// A pattern can name the wall seconds of the years 1 to 5000. A search, wherever it starts, needs those of the years 0
+/// to 5001 to be held. The laws promise that all a search needs is held around each start in the years -9997 to 9997.
 pub fn years_of_the_limits(civil: CivilDateTime)
     ensures searched { IsSearched (wall_second civil) ↔ IsBetween (pos first_year) (pos last_year) civil.date.year }
     ensures needed { IsInReach (wall_second civil) ↔ IsBetween (pos (first_year - 1)) (pos (last_year + 1)) civil.date.year }

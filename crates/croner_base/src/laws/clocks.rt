@@ -1,6 +1,6 @@
-//! What the clocks of `jiff` keep, whatever a search asks of them.
+//! What holds for `jiff`'s clocks, whatever a search asks of them.
 //!
-//! When a zone is calm is said at [`CronDateTime`](crate::time::CronDateTime).
+//! [`CronDateTime`](crate::time::CronDateTime) says when a zone is calm.
 ghost use Rattle.std.specs.Prelude.{◌≡◌, ℤ, Some};
 ghost use Rattle.croner_base.specs.declared.time.civil.CivilDateTime.{CivilDateTime};
 ghost use Rattle.croner_base.specs.declared.time.value.Resolution.{Resolution};
@@ -22,13 +22,13 @@ pub fn civil_time_is_calm(start: DateTime)
         → instants ≡ Resolution.Single (wall_second civil) }
 {}
 
-/// Around a civil date-time of the years -9997 to 9997 everything is held that a search needs.
+/// Around a civil date-time of the years -9997 to 9997 all that a search needs is held.
 pub fn civil_time_holds_around(start: DateTime)
     ensures { IsStart (reading (civil_moment start)) → HoldsAround (civil_moment start) }
 {}
 
-/// Around a zoned date-time that reads a year from -9997 to 9997 everything is held that a search needs, in every time
-/// zone, calm or not.
+/// Around a zoned date-time that reads a year from -9997 to 9997 all that a search needs is held, in every time zone,
+/// calm or not.
 pub fn zoned_holds_around(start: &Zoned<'_>)
     ensures { IsStart (reading (value_moment start.now)) → HoldsAround (value_moment start.now) }
 {}

@@ -1,4 +1,4 @@
-//! The marks of a component are sets of values, one for each modifier: what each change adds to them or takes from
+//! The marks of a component are sets of values, one for each modifier: what each change adds to or removes from
 //! them, and what a text names.
 ghost use Rattle.std.specs.Prelude.{◌≡◌, ℕ, ◌<◌, ◌≤◌, ◌||◌, true, false, List, [], length, bit_or};
 ghost use Rattle.std.specs.List.{All};
@@ -8,18 +8,18 @@ ghost use Rattle.croner_base.specs.Marks.{IsWellFormed, AddsOne, TakesOne, AddsN
 ghost use Rattle.croner_base.specs.Part.{field_of, pieces_at};
 ghost use Rattle.croner_base.specs.Reading.{Reading};
 
-/// A mark adds its value to the sets of its modifiers, and changes nothing else: no other value, no other modifier, and
-/// neither step, enabled features nor the wildcard mark.
+/// A mark adds its value to the sets of its modifiers, and changes nothing else: no other value or modifier, not the
+/// step, the enabled features or the wildcard mark.
 pub fn a_mark_adds_one_value()
     ensures { (f : Field) (value bits : ℕ) → IsWellFormed f → can_ask f.shape value bits ≡ true → AddsOne f value bits }
 {}
 
-/// An unset takes its value from the sets of its modifiers, and changes nothing else.
+/// An unset removes its value from the sets of its modifiers, and changes nothing else.
 pub fn an_unset_takes_one_value()
     ensures { (f : Field) (value bits : ℕ) → IsWellFormed f → can_ask f.shape value bits ≡ true → bits < 256 → TakesOne f value bits }
 {}
 
-/// Reading a text, accepted or refused, leaves each set as it was but for what the reading names.
+/// Reading a text, accepted or refused, adds to each set what the reading names, and changes nothing else.
 pub fn reading_adds_what_it_names()
     ensures { (f : Field) (reading : Reading) → AddsNamed f reading }
 {}
@@ -45,7 +45,7 @@ pub fn values_list_the_set()
     ensures { (f : Field) (bits : ℕ) → ListsSet bits f }
 {}
 
-/// A value has one of several modifiers exactly if it has one of the first or one of the others.
+/// A value has one of two groups of modifiers exactly if it has one of the first group or one of the second.
 pub fn several_modifiers_ask_for_any()
     ensures { (f : Field) (a b value : ℕ) → is_marked (bit_or a b) f value ≡ (is_marked a f value || is_marked b f value) }
 {}
@@ -56,8 +56,8 @@ pub fn a_maximum_of_zero_holds_nothing()
     ensures marks { (shape : Shape) (value bits : ℕ) → shape.max ≡ 0 → can_mark shape value bits ≡ false }
 {}
 
-/// A default component has nothing and takes nothing: no value is listed for any modifiers, each set, unset and
-/// question is refused, and so is each feature but `NONE_BIT`, and each text but a list of empty parts.
+/// A default component holds nothing and accepts nothing: it lists no value, whatever the modifiers. It refuses
+/// each set, unset and question, each feature but `NONE_BIT`, and each text but a list of empty parts.
 pub fn a_default_component_holds_nothing()
     ensures lists { (bits : ℕ) → marked_values bits default_field ≡ [] }
     ensures modifiers { has_modifiers default_field ≡ false }

@@ -1,5 +1,5 @@
-//! Laws that follow from the definitions, each as the contract of a small public function: what a caller may rest on
-//! without reading how a definition is written.
+//! Laws that follow from the definitions, each the contract of a small public function. A caller may rely on them
+//! without reading the definitions.
 
 pub mod calendar;
 pub mod clocks;

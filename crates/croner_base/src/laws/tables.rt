@@ -1,4 +1,4 @@
-//! What the clocks of tables keep, whatever a search asks of them.
+//! What holds for the clocks of tables, whatever a search asks of them.
 ghost use Rattle.std.specs.Prelude.{◌≡◌, ◌↔◌, IsTrue, ℤ, pos, neg_ℤ, ◌+ℤ◌, ◌≤ℤ◌, []};
 ghost use Rattle.std.specs.List.{All};
 ghost use Rattle.croner_base.specs.Calm.{IsCalm, IsChange, IsStart, HoldsAround};
@@ -8,7 +8,7 @@ ghost use Rattle.croner_base.specs.Zone.{reading};
 
 use crate::time::table::{ClockTable, TableTime};
 
-/// The clock of a table is calm, as [`CronDateTime`](crate::time::CronDateTime) says what that is.
+/// The clock of a table is calm ([`CronDateTime`](crate::time::CronDateTime) says what that means).
 pub fn table_is_calm(table: &ClockTable)
     ensures { IsCalm (table_zone table.now) }
 {}
@@ -18,7 +18,7 @@ pub fn clock_changes_where_the_table_does(table: &ClockTable)
     ensures { (instant : ℤ) → IsChange (table_zone table.now) instant ↔ ¬ (All (λ c. ¬ (c.0 ≡ instant)) table.now.changes.items) }
 {}
 
-/// Around a second of a table whose clock reads a year from -9997 to 9997 everything is held that a search needs.
+/// Around a second at which a table's clock reads a year from -9997 to 9997 all that a search needs is held.
 pub fn table_time_holds_around(start: &TableTime<'_>)
     ensures { IsStart (reading (table_moment start.now)) → HoldsAround (table_moment start.now) }
 {}

@@ -15,10 +15,10 @@ use crate::time::{day_of_year, days_in_month};
 use jiff_core::civil::Date;
 use std::fmt;
 
-/// After so many years the calendar has the same dates again.
+/// The calendar repeats after this many years.
 const YEARS_PER_PERIOD: i32 = 400;
 
-/// The days of these years.
+/// The days in these years.
 const DAYS_PER_PERIOD: i64 = 146_097;
 
 /// A day of the week. Weekdays are counted and ordered from Sunday, as cron does.
@@ -43,7 +43,7 @@ pub enum Weekday {
 impl Weekday {
     ghost use Rattle.croner_base.specs.Civil.{weekday_index};
 
-    /// How many days after Sunday it is: 0 to 6.
+    /// How many days it is after Sunday: 0 to 6.
     ///
     /// ```
     /// let days = Weekday::Friday.num_days_from_sunday(); // 5
@@ -55,7 +55,7 @@ impl Weekday {
         self as u32
     }
 
-    /// The weekday so many days after a Sunday. Whole weeks don't matter, so it undoes `num_days_from_sunday`.
+    /// The weekday that many days after a Sunday. It undoes `num_days_from_sunday`, and whole weeks don't matter.
     ///
     /// ```
     /// let friday = Weekday::from_days_from_sunday(5);
@@ -77,8 +77,8 @@ impl Weekday {
         WEEK[days as usize % WEEK.len()]
     }
 
-    /// The weekday `days` days later, or earlier where it is negative. The caller sees to it that `days` and the
-    /// number of this weekday add up within an `i32`.
+    /// The weekday `days` days later, or earlier where it is negative. The caller makes sure that the sum of
+    /// `days` and this weekday's number fits an `i32`.
     ///
     /// ```
     /// let tuesday = Weekday::Sunday.shift(-5);
@@ -93,7 +93,7 @@ impl Weekday {
     }
 }
 
-/// A date that the calendar has: a year, a month from 1 to 12, and a day of it from 1. Dates are ordered in time.
+/// A date that exists: a year, a month from 1 to 12, and a day of that month from 1. An earlier date is less.
 ///
 /// ```
 /// let date = CivilDate::from_ymd(2024, 7, 1)?;
@@ -140,7 +140,7 @@ impl CivilDate {
         CivilDate::from_ymd_opt(year, month, day).ok_or(CronError::InvalidDate)
     }
 
-    /// The date of parts that the caller knows to make one: nothing is tested as the program runs.
+    /// The date of parts that the caller knows to be one: nothing is checked at run time.
     pub fn from_parts_unchecked(year: i32, month: u32, day: u32) -> CivilDate
         requires { IsRealDate year month day }
         ensures { HasYmd year month day result }
@@ -195,7 +195,7 @@ impl CivilDate {
         day_of_year(self.year, self.month(), self.day())
     }
 
-    // How many days it comes after 1970-01-01, negative before it: those of the same date in the years 0 to 399, and the
+    // How many days after 1970-01-01 it is, negative before it: that of the same date in the years 0 to 399, plus the
     // days of the periods between.
     fn day_number(self) -> i64
         ensures value { result ≡ day_of_date self }
@@ -210,7 +210,7 @@ impl CivilDate {
         date.to_unix_epoch_day() as i64 + periods * DAYS_PER_PERIOD
     }
 
-    // The date that comes so many days after 1970-01-01, or before it. `None` where its year is none of `i32`.
+    // The date that many days after 1970-01-01, or before it where negative. `None` where its year doesn't fit an `i32`.
     fn of_day_number(day: i64) -> Option<CivilDate>
         ensures { MatchOption result ((date : CivilDate) → FitsSigned w32 date.year → ¬ (day_of_date date ≡ day)) (λ date. day_of_date date ≡ day) }
     {
@@ -228,8 +228,8 @@ impl CivilDate {
     }
 }
 
-/// Year, month and day with `-` between them: the year in four places or more with leading zeros, of which a minus
-/// sign takes one, month and day in two places. `2024-07-01`, `-005-01-01`.
+/// Year, month and day with `-` between them: the year in at least four places with leading zeros, of which a
+/// minus sign takes one; month and day in two. `2024-07-01`, `-005-01-01`.
 impl fmt::Display for CivilDate {
     ghost output = { λ d. Some (date_text d.year d.month d.day) };
 
@@ -240,7 +240,7 @@ impl fmt::Display for CivilDate {
 }
 
 /// A time of day to the second: an hour from 0 to 23, a minute and a second from 0 to 59. There are no leap seconds.
-/// Times are ordered within the day.
+/// An earlier time is less.
 ///
 /// ```
 /// let end = CivilTime::END_OF_DAY;
@@ -289,7 +289,7 @@ impl CivilTime {
         Some(CivilTime::from_parts_unchecked(hour, minute, second))
     }
 
-    /// The time of parts that the caller knows to be in range: nothing is tested as the program runs.
+    /// The time of parts that the caller knows to be in range: nothing is checked at run time.
     pub fn from_parts_unchecked(hour: u32, minute: u32, second: u32) -> CivilTime
         requires hour { hour < 24 }
         requires minute { minute < 60 }
@@ -324,7 +324,7 @@ impl CivilTime {
         self.second as u32
     }
 
-    /// The time so many seconds after midnight.
+    /// The time that many seconds after midnight.
     pub(crate) fn from_seconds_of_day(seconds: u32) -> CivilTime
         requires { seconds < day_seconds }
         ensures { seconds_of_time result ≡ seconds }
@@ -337,7 +337,7 @@ impl CivilTime {
         }
     }
 
-    /// The seconds that have gone by since midnight: 0 to 86,399.
+    /// The seconds since midnight: 0 to 86,399.
     pub(crate) fn seconds_of_day(self) -> i64
         ensures { result ≡ pos (seconds_of_time self) }
     {
@@ -356,7 +356,7 @@ impl fmt::Display for CivilTime {
     }
 }
 
-/// A date and a time of day to the second, as a wall clock without a zone shows them. They are ordered in time.
+/// A date and a time of day to the second, as a wall clock without a zone shows them. An earlier one is less.
 ///
 /// ```
 /// let start = CivilDateTime::from_ymd_hms(2024, 7, 1, 9, 30, 0)?;
@@ -505,8 +505,8 @@ impl CivilDateTime {
         self.date.day_number() * SECONDS_PER_DAY as i64 + self.time.seconds_of_day()
     }
 
-    /// The date and time of a wall second: it undoes `wall_second`. `None` where no date and time has it, which is so
-    /// before the first year of `i32`, -2,147,483,648, and after the last one, 2,147,483,647.
+    /// The date and time of a wall second: it undoes `wall_second`. `None` where its year doesn't fit an `i32`,
+    /// -2,147,483,648 to 2,147,483,647.
     ///
     /// ```
     /// let start = CivilDateTime::of_wall_second(1_719_826_200); // Some: 2024-07-01T09:30:00

@@ -1,4 +1,4 @@
-//! Times whose seconds have numbers, by which a time of the same zone is found.
+//! Times whose seconds have numbers, from which a time in the same zone is found.
 ghost use Rattle.std.specs.Prelude.{◌≡◌};
 
 use crate::time::CronDateTime;
@@ -10,12 +10,12 @@ use jiff_core::civil::DateTime as Plain;
 /// Nanoseconds of a second.
 const NANOSECONDS_PER_SECOND: i128 = 1_000_000_000;
 
-/// A time that tells the number of its second, and finds the time at another second of its zone. Neither takes memory.
+/// A time that gives the number of its second, and the time at another second in its zone. Neither call takes memory.
 pub trait Clocked: CronDateTime {
     ghost use Rattle.croner_base.specs.Clocked.{IsAtSecond};
 
-    /// The whole second in which it lies, in seconds since 1970-01-01T00:00:00 UTC; in civil time, since that date and
-    /// time. Half a second before 1970 lies in the second -1.
+    /// The whole second it lies in, counted from 1970-01-01T00:00:00 UTC; in civil time, from that date and time. Half
+    /// a second before 1970 lies in the second -1.
     ///
     /// ```
     /// let noon = DateTime::new(2024, 7, 1, 12, 0, 0, 0)?;

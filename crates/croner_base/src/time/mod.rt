@@ -1,7 +1,7 @@
-//! The calendar, dates and times without a zone, and the trait by which a search sees a date and time library.
+//! The calendar, dates and times without a zone, and the trait through which a search uses a date and time library.
 //!
-//! The calendar is the proleptic Gregorian one: its rules of today reach back without end, year 0 lies before year 1,
-//! and years before it are negative. A day has 86,400 seconds.
+//! The calendar is the proleptic Gregorian one: today's rules apply to all the past, year 0 comes before year 1, and
+//! the years before year 0 are negative. A day has 86,400 seconds.
 ghost use Rattle.std.specs.Prelude.{◌≡◌};
 ghost use Rattle.std.specs.Int.{IsInRange};
 ghost use Rattle.jiff_core.specs.Calendar.{is_leap_year as leap, days_in_month as month_days, days_in_year as year_days};
@@ -49,7 +49,7 @@ pub const YEAR_UPPER_LIMIT: i32 = 5000;
 /// The first year that a pattern can name.
 pub const YEAR_LOWER_LIMIT: i32 = 1;
 
-/// Whether a year has a 29 February: each fourth year has, but of the whole hundreds only each fourth.
+/// Whether a year has a 29 February: years divisible by 4, except those divisible by 100 and not by 400.
 ///
 /// ```
 /// let leap = is_leap_year(2000); // true
@@ -76,7 +76,7 @@ pub fn days_in_year(year: i32) -> u32
     365 + u32::from(is_leap_year(year))
 }
 
-/// How many days a month of a year has, from 28 to 31. The caller sees to it that the month is one, from 1 to 12.
+/// How many days a month of a year has, from 28 to 31. The caller makes sure that the month is from 1 to 12.
 ///
 /// ```
 /// let days = days_in_month(2024, 2); // 29
@@ -93,7 +93,7 @@ pub fn days_in_month(year: i32, month: u32) -> u32
     }
 }
 
-/// The place of a date in its year, from 1 for 1 January. The caller sees to it that the date exists.
+/// The place of a date in its year, from 1 for 1 January. The caller makes sure that the date exists.
 ///
 /// ```
 /// let place = day_of_year(2024, 3, 1); // 61
@@ -102,7 +102,7 @@ pub fn day_of_year(year: i32, month: u32, day: u32) -> u32
     requires { IsRealDate year month day }
     ensures { result ≡ place_in_year year month day }
 {
-    // What has gone by on the first of each month, where February has 28 days.
+    // The days of the year before each month, where February has 28 days.
     const DAYS_GONE: [u32; 12] = [0, 31, 59, 90, 120, 151, 181, 212, 243, 273, 304, 334];
 
     let leap_day = u32::from(month > 2 && is_leap_year(year));

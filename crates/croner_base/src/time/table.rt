@@ -1,4 +1,4 @@
-//! Clocks that are given by a table of offsets: what a clock is ahead of UTC, first and after each of its changes.
+//! Clocks given by a table of offsets: how far a clock is ahead of UTC at first, and after each of its changes.
 ghost use Rattle.std.specs.Prelude.{◌≡◌, ◌↔◌, ◌<◌, ◌≤◌, IsTrue, IsOk, IfOk, IfErr, pos, ◌≤ℤ◌, ◌-ℤ◌, int_le, false, vec_len, slice_index_or};
 ghost use Rattle.std.proofs.Common.{ap};
 ghost use Rattle.croner_base.specs.Table as Spec;
@@ -16,9 +16,9 @@ use jiff::Timestamp;
 use std::alloc::Global;
 use std::cmp::Ordering;
 
-/// A clock that is some seconds ahead of UTC, up to its first change and from each change on.
+/// A clock given by its offset from UTC, in seconds: before its first change, and from each change on.
 ///
-/// Every `ClockTable` is calm, as a search wants a clock to be ([`CronDateTime`] says when a zone is calm).
+/// Every `ClockTable` is calm, as the promises of a search ask ([`CronDateTime`] says when a zone is calm).
 ///
 /// Paris in 2024 is one hour ahead of UTC, and two from 2024-03-31T01:00:00 UTC to 2024-10-27T01:00:00 UTC:
 ///
@@ -40,14 +40,14 @@ impl ClockTable {
     /// The clock that is `first_offset` seconds ahead of UTC before its first change. Each change is an instant, in
     /// seconds since 1970-01-01T00:00:00 UTC, and the seconds that the clock is ahead of UTC from that instant on.
     ///
-    /// Refused as `InvalidTime`, and the list dropped, unless
+    /// `InvalidTime`, and the list is dropped, unless
     ///
     /// - every offset is from -86,400 to 86,400;
     /// - the instants are from -377,705,116,800 to 253,402,300,799 (the UTC years -9999 to 9999) and ascend, each more
     ///   than 172,800 after the one before;
     /// - each offset differs from the one before, by 1 to 86,400 forward or by 1 to 7,200 back;
     /// - at most 20,000 changes have a reading in the years 1 to 5000 at their instant or one second before it, and
-    ///   the positive differences of offsets at these add up to at most 20,000,000.
+    ///   the moves forward at these add up to at most 20,000,000 seconds.
     ///
     /// ```
     /// let utc = ClockTable::new(0, Vec::new(alloc))?;
@@ -81,8 +81,8 @@ impl ClockTable {
         self.first_offset
     }
 
-    /// The changes of the clock, from the earliest: each is an instant, in seconds since 1970-01-01T00:00:00 UTC, and the
-    /// seconds that the clock is ahead of UTC from that instant on. There are no others.
+    /// All changes of the clock, from the earliest. Each is an instant, in seconds since 1970-01-01T00:00:00 UTC, and the
+    /// seconds that the clock is ahead of UTC from that instant on.
     ///
     /// ```
     /// let (instant, ahead) = paris.changes()[0]; // 1711846800, 7200
@@ -160,8 +160,8 @@ impl<'t> TableTime<'t> {
     ghost use Rattle.jiff_core.specs.Timestamp.{nanos_of_seconds};
     ghost use Rattle.std.specs.Int.{int_div_euclid};
 
-    /// The second on the clock of the table. Refused as `InvalidTime` outside -377,705,116,800 to 253,402,300,799, the
-    /// UTC years -9999 to 9999.
+    /// The second on the clock of the table. `InvalidTime` outside -377,705,116,800 to 253,402,300,799, the UTC years
+    /// -9999 to 9999.
     ///
     /// ```
     /// let noon = TableTime::new(&paris, 1_719_828_000)?; // 2024-07-01T12:00:00
@@ -180,8 +180,8 @@ impl<'t> TableTime<'t> {
         }
     }
 
-    /// The second on the clock of the table in which an instant of `jiff` lies. Its fraction of a second is left out, so
-    /// that a search backward from within a second finds a run at its beginning only where it is inclusive.
+    /// The second, on the table's clock, that contains an instant of `jiff`. Its fraction is dropped: so a search
+    /// backward finds a run at the beginning of that second only if the search is inclusive.
     ///
     /// ```
     /// let now = Timestamp::now(&rt)?;
@@ -197,8 +197,8 @@ impl<'t> TableTime<'t> {
         }
     }
 
-    /// The instant of `jiff`. Refused as `InvalidTime` outside -377,705,023,201 to 253,402,207,200, the seconds that
-    /// `jiff` has as instants.
+    /// The instant of `jiff`. `InvalidTime` outside -377,705,023,201 to 253,402,207,200, the seconds of `jiff`'s
+    /// instants.
     ///
     /// ```
     /// let noon = TableTime::new(&paris, 1_719_828_000)?;
@@ -257,7 +257,7 @@ impl<'t> TableTime<'t> {
         ensures value { seconds_of result ≡ instants_of self.now.table.now.first_offset self.now.table.now.changes.items wall }
         ensures table { AreOn self.now.table.now result }
     {
-        // A change more than a day before it is past at each of them; of the others the first decides.
+        // A change more than a day before the wall second is past at each of them; of the other changes the first decides.
         let passed = self
             .table
             .changes_until(wall - OFFSET_LIMIT_SECONDS as i64 - 1);
@@ -269,8 +269,8 @@ impl<'t> TableTime<'t> {
         Self::around(self.table.instant_of(passed), by_old, by_new)
     }
 
-    // Of two seconds, those at which the clock reads a wall second: the one by the offset before a change if it lies
-    // before the change, and the one by the offset after it if it doesn't.
+    // The seconds near a change at which the clock reads a wall second: the one by the offset before the change, if
+    // it lies before the change, and the one by the offset after it, if it doesn't.
     fn around(
         change: i64,
         by_old: TableTime<'t>,
@@ -292,7 +292,7 @@ impl<'t> TableTime<'t> {
         }
     }
 
-    // The second that reads a wall second if the offset after so many changes is in force.
+    // The second at which the clock reads a wall second, if the offset after so many changes is in force.
     #[tactic(auto, using(crate::proofs::tables::TableReadings::offsets))]
     fn by_offset_past(&self, count: usize, wall: i64) -> TableTime<'t>
         requires count { count ≤ vec_len self.now.table.now.changes }

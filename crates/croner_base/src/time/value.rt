@@ -1,4 +1,4 @@
-//! The trait that connects a date and time library.
+//! The trait that a date and time library implements.
 ghost use Rattle.std.specs.Prelude.{◌≡◌, Bool, false, IsTrue, IfOk, IfErr};
 ghost use Rattle.std.specs.Ordering.{int_cmp};
 
@@ -7,7 +7,7 @@ use crate::time::{CivilDateTime, Weekday};
 use std::alloc::Global;
 use std::cmp::Ordering;
 
-/// What a wall second names in a zone: instants at which the zone's clock shows it, and in a calm zone all of them.
+/// Instants at which a zone's clock shows a wall second; in a calm zone, all of them.
 ///
 /// ```
 /// let instant = match noon.resolve_civil(alloc, civil)? {
@@ -28,20 +28,21 @@ pub enum Resolution<T> {
 /// A value that names an instant in a time zone: what a search needs of a date and time library.
 ///
 /// A value has a zone, a whole second and a fraction of a second. The zone's clock shows one wall second at each whole
-/// second. An implementation states once which zone, second and fraction its values name; the five functions and
-/// `Clone` are then held to it, whatever the zone does.
+/// second. An implementation states once which zone, second and fraction its values name. The five functions and
+/// `Clone` have to agree with that, whatever the zone does.
 ///
 /// # Calm zones
 ///
-/// Most of what is promised of searches is promised in a calm zone. A zone is calm where
+/// Most promises about searches hold in a calm zone. A zone is calm where
 /// - a change moves its clock forward by at most a day, or back by at most two hours;
 /// - any two changes lie more than two days apart;
-/// - the changes at which its clock shows a second of the years 1 to 5000, at the change or one second before it, are at most
-///   20,000, and skip at most 20,000,000 seconds together;
+/// - at most 20,000 changes are within the years 1 to 5000 (the clock shows a second of them at the change or one second
+///   before it), and these skip at most 20,000,000 seconds in total;
 /// - each second that the implementation holds is resolved to exactly the instants that show it.
 ///
 /// Civil time and every table of offsets are proved to be calm ([`laws::clocks`](crate::laws::clocks),
-/// [`laws::tables`](crate::laws::tables)). Whether another zone is calm, its caller has to know.
+/// [`laws::tables`](crate::laws::tables)). For any other zone the caller has to know whether it is
+/// calm.
 pub trait CronDateTime: Sized + Clone + Drop {
     ghost use Rattle.croner_base.specs.Zone.{Moment, nanos_of, reading, IsResolved, IsUnheld, IsMoved};
     ghost use Rattle.croner_base.specs.Civil.{wall_second, weekday_index, weekday_of_second};
@@ -49,10 +50,10 @@ pub trait CronDateTime: Sized + Clone + Drop {
     /// The zone, the whole second and the fraction that a value names.
     ghost moment: { Self → Moment };
 
-    /// Whether `resolve_civil`, `checked_add_seconds` and `clone` can find no memory.
+    /// Whether `resolve_civil`, `checked_add_seconds` and `clone` can run out of memory.
     ghost can_lack_memory: { Bool };
 
-    /// What the zone's clock shows at the instant's whole second: the fraction is dropped.
+    /// What the zone's clock shows at the instant's whole second, without the fraction.
     ///
     /// With the clock `paris` of [`ClockTable`](crate::time::table::ClockTable):
     ///
@@ -72,10 +73,10 @@ pub trait CronDateTime: Sized + Clone + Drop {
     fn civil_weekday(&self) -> Weekday
         ensures { weekday_index result ≡ weekday_of_second (reading (moment self.now)) };
 
-    /// Names whole-second instants of the same zone at which its clock shows `civil`, the earlier first.
+    /// The whole-second instants of the same zone at which its clock shows `civil`, the earlier first; in a calm zone, all of them.
     ///
-    /// `InvalidDate` or `InvalidTime` where the implementation doesn't hold that second. `OutOfMemory` only where it
-    /// says that it can lack memory.
+    /// `InvalidDate` or `InvalidTime` where the implementation doesn't hold that second. `OutOfMemory` only where
+    /// `can_lack_memory` says so.
     ///
     /// ```
     /// // In Paris the clock goes back from 03:00:00 to 02:00:00 on this day.
@@ -91,10 +92,10 @@ pub trait CronDateTime: Sized + Clone + Drop {
         ensures err { IfErr result
             (IsUnheld can_lack_memory (moment self.now).zone civil) };
 
-    /// The same zone and fraction, `seconds` elapsed seconds later, or earlier where it is negative.
+    /// The instant `seconds` elapsed seconds later, or earlier where negative, in the same zone and with the same fraction.
     ///
-    /// `None` where the implementation doesn't hold that instant. `OutOfMemory` only where it says that it can lack
-    /// memory.
+    /// `None` where the implementation doesn't hold that instant. `OutOfMemory` only where `can_lack_memory` says
+    /// so.
     ///
     /// ```
     /// let later = noon.checked_add_seconds(alloc, 3_600)?; // Some: 2024-07-01T13:00:00
@@ -116,6 +117,6 @@ pub trait CronDateTime: Sized + Clone + Drop {
     /// A clone names the same instant in the same zone.
     ghost clone_keeps: { (a b : Self) → Self.is_clone a b → moment b ≡ moment a };
 
-    /// It is refused memory only where the backend says so.
+    /// A clone fails for lack of memory only where `can_lack_memory` says so.
     ghost clone_memory: { (a : Self) → can_lack_memory ≡ false → Self.is_infallible a };
 }

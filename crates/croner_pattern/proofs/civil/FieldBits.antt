@@ -7,12 +7,13 @@ use Rattle.std.proofs.lemmas.Nat.Bits.{bit_at_and, bit_at-lt, bit_at-trailing_ze
 use Rattle.jiff_core.proofs.SignedLemmas.{signed_arith}
 use Rattle.croner_base.specs.declared.time.Direction.{Direction}
 use Rattle.croner_base.specs.declared.time.Direction.TheVariants.{Forward, Backward}
-use Rattle.croner_base.specs.Field.{Field, is_marked}
+use Rattle.croner_base.specs.Field.{Field}
 use Rattle.croner_base.proofs.words.WordSearch.{top_bit}
 use Rattle.croner_pattern.specs.Meaning.{Meaning}
 use Rattle.croner_pattern.specs.Shapes.{has_field_shapes}
 use Rattle.croner_pattern.proofs.questions.FieldShapes.{field_shapes, asks_sixty, asks_hour, asks_month, marked_named}
 use Rattle.croner_pattern.specs.Directions.{Precedes, Reaches}
+use Rattle.croner_pattern.specs.Words.{ShowsPlain}
 use Rattle.croner_pattern.proofs.civil.Ahead.{either}
 use Rattle.croner_pattern.specs.Private.Cursor.{AreFrom, HoldsAll, IsOnTheWay, IsPlainWithin, IsForemost, IsNearest, NoneOn}
 
@@ -79,13 +80,9 @@ no_bit word b e h = omega (arith, ap (λ n. bit_at n b) e, bit_at-zero b, h)
 
 -- ---- the values of a field
 
--- a word shows the marks of the first values
-abbrev pub ShowsPlain : Field → ℕ → Type 0
-ShowsPlain f word = (v : ℕ) → v < 64 → (bit_at word v == 1) ≡ is_marked 1 f v
-
 module _ (f : Field) (dir : Direction) (min max from word : ℕ) (small : max < 63) (held : HoldsAll f min max) (shows : ShowsPlain f word) where
   plain-bit : (v : ℕ) → IsPlainWithin f min max v → bit_at word v ≡ 1
-  plain-bit v p = eqb-true _ _ (shows v (omega (arith, p.high)) ∙ marked_named 1 f v (held v p.low p.high) ∙ p.plain)
+  plain-bit v p = eqb-true _ _ (shows v (omega (arith, p.high)) (held v p.low p.high) ∙ marked_named 1 f v (held v p.low p.high) ∙ p.plain)
 
   pub none_ahead : NoneOn pos (λ b. bit_at word b ≡ 1) dir (pos from) → NoneOn pos (IsPlainWithin f min max) dir (pos from)
   none_ahead none v on p = none v on (plain-bit v p)
@@ -93,7 +90,7 @@ module _ (f : Field) (dir : Direction) (min max from word : ℕ) (small : max < 
   pub nearest_ahead : (found : ℕ) → IsNearest pos (λ b. bit_at word b ≡ 1) dir (pos from) found → min ≤ found → found ≤ max → IsNearest pos (IsPlainWithin f min max) dir (pos from) found
   nearest_ahead found h low high = record {
     on = h.on;
-    is = record { low = low; high = high; plain = sym (marked_named 1 f found (held found low high)) ∙ sym (shows found (omega arith)) ∙ ap (λ n. n == 1) h.is };
+    is = record { low = low; high = high; plain = sym (marked_named 1 f found (held found low high)) ∙ sym (shows found (omega arith) (held found low high)) ∙ ap (λ n. n == 1) h.is };
     first = λ v on p. h.first v on (plain-bit v p);
   }
 

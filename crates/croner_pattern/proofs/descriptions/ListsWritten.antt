@@ -50,7 +50,7 @@ from_third and item (next ∷ more) place h =
     let step = from_third and next more (place + 1) (omega arith) in
     rw (zero, step) (simp append_assoc refl)
 
--- a text list is its items, each behind its separator
+-- a text list is its items, each after its separator
 pub text_list-from_place : (and : List ℕ) (items : List (List ℕ)) → text_list and items ≡ from_place (separator and) 0 items
 text_list-from_place and [] = refl
 text_list-from_place and (one ∷ []) = sym (append-nil one)

@@ -51,7 +51,7 @@ items_some first last h rest =
           rw (near, n) refl
     ]
 
--- no item is left behind the last value, and some are behind each other one
+-- no item is left after the last value, and some are after each other one
 pub items_left : (values : List ℕ) (end : ℕ) → end < length values
     → is_empty (map item_text (flat_map items_of (streaks_of (drop (end + 1) values)))) ≡ eqb (end + 1) (length values)
 items_left values end h =

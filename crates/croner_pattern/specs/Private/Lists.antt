@@ -7,7 +7,7 @@ use Rattle.croner_base.specs.declared.errors.CronError.{CronError}
 use Rattle.croner_base.specs.declared.errors.CronError.TheVariants.{OutOfMemory}
 use Rattle.croner_pattern.specs.Lists.{streaks_of, item_text, items_of}
 
--- a text is written behind another, or memory was wanted
+-- a text is written after another, or memory was wanted
 abbrev pub Appends : {X : Type 0} → List ℕ → String Global → String Global → Result X CronError → Type 0
 Appends text old new answer = MatchResult answer (λ _. string_bytes new ≡ string_bytes old ++ text) (λ e. e ≡ OutOfMemory)
 
@@ -26,21 +26,21 @@ separator and place is_last =
 abbrev pub comma : ℕ → Bool → List ℕ
 comma place is_last = if place == 0 then [] else codes ", "
 
--- the items from a place on, each behind what goes before it
+-- the items from a place on, each after what goes before it
 abbrev pub from_place : (ℕ → Bool → List ℕ) → ℕ → List (List ℕ) → List ℕ
 from_place before place [] = []
 from_place before place (item ∷ more) = before place (is_empty more) ++ (item ++ from_place before (place + 1) more)
 
--- texts are put behind others, or memory was wanted
+-- texts are put after others, or memory was wanted
 abbrev pub AddsTexts : {X : Type 0} → List (List ℕ) → Vec (String Global) Global → Vec (String Global) Global → Result X CronError → Type 0
 AddsTexts texts old new answer =
     MatchResult answer (λ _. map string_bytes new.items ≡ map string_bytes old.items ++ texts) (λ e. e ≡ OutOfMemory)
 
--- what a list of texts is, or want of memory
+-- what a list of texts is, or lack of memory
 abbrev pub ListsTexts : List (List ℕ) → Result (Vec (String Global) Global) CronError → Type 0
 ListsTexts texts answer = MatchResult answer (λ v. map string_bytes v.items ≡ texts) (λ e. e ≡ OutOfMemory)
 
--- the value behind an index is the next number
+-- the value after an index is the next number
 abbrev pub goes_on : List ℕ → ℕ → Bool
 goes_on values end = nat_lt (end + 1) (length values) && (slice_index values (end + 1) == slice_index values end + 1)
 
@@ -51,7 +51,7 @@ pub record EndsStreak (values : List ℕ) (start end : ℕ) : Type 0 where
   pub even : slice_index values end + start ≡ slice_index values start + end
   pub streak : streaks_of (drop start values) ≡ record { first = slice_index values start; last = slice_index values end } ∷ streaks_of (drop (end + 1) values)
 
--- a streak is written from a place on, and what comes behind it goes on from the place that is answered
+-- a streak is written from a place on, and what comes after it goes on from the place that is answered
 pub record StreakWritten (and : List ℕ) (place : ℕ) (is_last : Bool) (first last : ℕ) (old new : List ℕ) (next : ℕ) : Type 0 where
   pub counted : next ≤ place + ((last + 1) - first)
   pub written : (rest : List (List ℕ)) → is_empty rest ≡ is_last

@@ -9,13 +9,13 @@ ghost use Rattle.croner_pattern.specs.Private.Cursor.{one_on, has_room, edge_day
 use croner_base::limits::{DAYS_PER_WEEK, LAST_MONTH};
 use croner_base::time::{CivilDate, Direction, YEAR_LOWER_LIMIT, YEAR_UPPER_LIMIT, day_of_year};
 
-/// The first year that a pattern can name, and that a search comes to.
+/// The first year that a pattern can name and a search can reach.
 pub(crate) const FIRST_SEARCHED_YEAR: u32 = YEAR_LOWER_LIMIT as u32;
 
 /// The last one.
 pub(crate) const LAST_SEARCHED_YEAR: u32 = YEAR_UPPER_LIMIT as u32;
 
-// Whether a search steps on from the year of a date.
+// Whether a search can step on from the year of a date.
 pub(crate) fn has_room(date: CivilDate, direction: Direction) -> bool
     ensures { result ≡ has_room direction date.year }
 {
@@ -32,7 +32,7 @@ fn is_ymd(date: CivilDate, year: i32, month: u32, day: u32) -> bool
     date.year() == year && date.month() == month && date.day() == day
 }
 
-// Whether a search comes to a date: of the year from which no step leads on it comes to the first day alone.
+// Whether a search reaches a date. In the year from which it can't step on, it reaches the first day only.
 pub(crate) fn is_reached(date: CivilDate, direction: Direction) -> bool
     ensures { IsTrue result ↔ Reaches direction (day_of_date date) (edge_day direction) }
 {
@@ -58,7 +58,7 @@ pub(crate) fn first_weekday(year: u32, month: u32) -> u32
     (year + leap_days + day_of_year(year as i32, month, 1) + 5) % DAYS_PER_WEEK
 }
 
-// The first year after that of a date, of those that a pattern can name.
+// The first year, among those that a pattern can name, after the year of a date.
 pub(crate) fn year_beyond(date: CivilDate, direction: Direction) -> u32
     requires { has_room direction date.year ≡ true }
     ensures { IsNearest pos (IsInRange FIRST_SEARCHED_YEAR LAST_SEARCHED_YEAR) direction (one_on direction date.year) result }

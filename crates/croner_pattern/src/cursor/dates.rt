@@ -4,7 +4,6 @@ ghost use Rattle.std.specs.Int.{IsInRange};
 ghost use Rattle.jiff_core.specs.Calendar.{days_in_month};
 ghost use Rattle.croner_base.specs.Civil.{day_of_date};
 ghost use Rattle.croner_pattern.specs.Directions.{Reaches};
-ghost use Rattle.croner_pattern.specs.Meaning.{meaning_of};
 ghost use Rattle.croner_pattern.specs.Shapes.{has_field_shapes};
 ghost use Rattle.croner_pattern.specs.Schedule.{is_plain, is_year_matching, first_weekday, IsDayMask};
 ghost use Rattle.croner_pattern.specs.Private.Cursor.{one_on, has_room, FindsForemost, FindsNearest, IsOnTheWay, IsNamedYear, IsMonthDays, IsMatchingDate, IsInMonth, IsInMonths, IsInYear, IsInYears, IsAfter, AreYearKinds};
@@ -15,31 +14,33 @@ use crate::cursor::calendar::{
 use crate::cursor::days::{day_after, first_day};
 use crate::cursor::kinds::{has_kind, year_kinds};
 use crate::cursor::values::{is_plain, nearest_value, nearest_year, neighbour};
-use crate::pattern::CronPattern;
+use crate::pattern::{PatternWords, Unit, days_of_month};
 use croner_base::limits::LAST_MONTH;
 use croner_base::time::{CivilDate, Direction, days_in_month};
 
 // The number of the year of a date, where the pattern names it.
 #[inline(always)]
-fn named_year(pattern: &CronPattern, date: CivilDate) -> Option<u32>
-    requires { has_field_shapes (meaning_of pattern.now) ≡ true }
-    ensures { MatchOption result (is_year_matching (meaning_of pattern.now) date.year ≡ false)
-        (IsNamedYear (meaning_of pattern.now) date.year) }
+fn named_year<P: PatternWords>(pattern: &P, date: CivilDate) -> Option<u32>
+    requires { has_field_shapes (P.meaning pattern.now) ≡ true }
+    ensures { MatchOption result (is_year_matching (P.meaning pattern.now) date.year ≡ false)
+        (IsNamedYear (P.meaning pattern.now) date.year) }
 {
-    match pattern.year_match(date.year()) {
-        Ok(true) => Some(date.year() as u32),
-        _ => None,
+    if pattern.names_year(date.year()) {
+        Some(date.year() as u32)
+    } else {
+        None
     }
 }
 
 // The days of a month that the day fields name.
-fn named_days(pattern: &CronPattern, year: u32, month: u32) -> u32
-    requires shapes { has_field_shapes (meaning_of pattern.now) ≡ true }
+fn named_days<P: PatternWords>(pattern: &P, year: u32, month: u32) -> u32
+    requires shapes { has_field_shapes (P.meaning pattern.now) ≡ true }
     requires year_in { IsInRange FIRST_SEARCHED_YEAR LAST_SEARCHED_YEAR year }
     requires month_in { IsInRange 1 LAST_MONTH month }
-    ensures { IsDayMask (meaning_of pattern.now) (days_in_month (pos year) month) (first_weekday (pos year) month) result }
+    ensures { IsDayMask (P.meaning pattern.now) (days_in_month (pos year) month) (first_weekday (pos year) month) result }
 {
-    pattern.days_of_month(
+    days_of_month(
+        pattern,
         days_in_month(year as i32, month),
         first_weekday(year, month),
     )
@@ -48,12 +49,12 @@ fn named_days(pattern: &CronPattern, year: u32, month: u32) -> u32
 // The days that match in the month of a date.
 #[tactic(auto, using(crate::proofs::civil::FieldBits::holds_months))]
 #[inline(always)]
-pub(crate) fn month_days(pattern: &CronPattern, date: CivilDate) -> u32
-    requires { has_field_shapes (meaning_of pattern.now) ≡ true }
-    ensures { IsMonthDays (meaning_of pattern.now) date.year date.month result }
+pub(crate) fn month_days<P: PatternWords>(pattern: &P, date: CivilDate) -> u32
+    requires { has_field_shapes (P.meaning pattern.now) ≡ true }
+    ensures { IsMonthDays (P.meaning pattern.now) date.year date.month result }
 {
     match named_year(pattern, date) {
-        Some(year) if is_plain(&pattern.months, date.month()) => {
+        Some(year) if is_plain(pattern, Unit::Month, date.month()) => {
             named_days(pattern, year, date.month())
         }
         _ => 0,
@@ -61,12 +62,17 @@ pub(crate) fn month_days(pattern: &CronPattern, date: CivilDate) -> u32
 }
 
 // The first date that matches in a named month of a named year.
-fn in_month(pattern: &CronPattern, year: u32, month: u32, direction: Direction) -> Option<CivilDate>
-    requires shapes { has_field_shapes (meaning_of pattern.now) ≡ true }
+fn in_month<P: PatternWords>(
+    pattern: &P,
+    year: u32,
+    month: u32,
+    direction: Direction,
+) -> Option<CivilDate>
+    requires shapes { has_field_shapes (P.meaning pattern.now) ≡ true }
     requires year_in { IsInRange FIRST_SEARCHED_YEAR LAST_SEARCHED_YEAR year }
     requires month_in { IsInRange 1 LAST_MONTH month }
-    ensures { is_year_matching (meaning_of pattern.now) (pos year) ≡ true → is_plain (meaning_of pattern.now).months month ≡ true
-        → FindsForemost day_of_date (IsInMonth (meaning_of pattern.now) (pos year) (pos month)) direction result }
+    ensures { is_year_matching (P.meaning pattern.now) (pos year) ≡ true → is_plain (P.meaning pattern.now).months month ≡ true
+        → FindsForemost day_of_date (IsInMonth (P.meaning pattern.now) (pos year) (pos month)) direction result }
 {
     let day = first_day(named_days(pattern, year, month), direction)?;
     Some(CivilDate::from_parts_unchecked(year as i32, month, day))
@@ -74,20 +80,20 @@ fn in_month(pattern: &CronPattern, year: u32, month: u32, direction: Direction) 
 
 // The first date that matches in the months of a named year from a month on.
 #[tactic(auto, using(crate::proofs::civil::FieldBits::holds_months))]
-fn in_months(
-    pattern: &CronPattern,
+fn in_months<P: PatternWords>(
+    pattern: &P,
     year: u32,
     month: u32,
     direction: Direction,
 ) -> Option<CivilDate>
-    requires shapes { has_field_shapes (meaning_of pattern.now) ≡ true }
+    requires shapes { has_field_shapes (P.meaning pattern.now) ≡ true }
     requires year_in { IsInRange FIRST_SEARCHED_YEAR LAST_SEARCHED_YEAR year }
     requires month_in { IsOnTheWay direction 1 LAST_MONTH month }
-    ensures { is_year_matching (meaning_of pattern.now) (pos year) ≡ true
-        → FindsForemost day_of_date (IsInMonths (meaning_of pattern.now) direction (pos year) (pos month)) direction result }
+    ensures { is_year_matching (P.meaning pattern.now) (pos year) ≡ true
+        → FindsForemost day_of_date (IsInMonths (P.meaning pattern.now) direction (pos year) (pos month)) direction result }
 {
     let mut from = month;
-    while let Some(month) = nearest_value(&pattern.months, 1, LAST_MONTH, from, direction) {
+    while let Some(month) = nearest_value(pattern, Unit::Month, 1, LAST_MONTH, from, direction) {
         if let Some(found) = in_month(pattern, year, month, direction) {
             return Some(found);
         }
@@ -109,27 +115,27 @@ fn first_month(direction: Direction) -> u32
 
 // The first date that matches in a named year.
 #[tactic(auto, using(crate::proofs::civil::DateSearch::whole_year))]
-fn in_year(pattern: &CronPattern, year: u32, direction: Direction) -> Option<CivilDate>
-    requires shapes { has_field_shapes (meaning_of pattern.now) ≡ true }
+fn in_year<P: PatternWords>(pattern: &P, year: u32, direction: Direction) -> Option<CivilDate>
+    requires shapes { has_field_shapes (P.meaning pattern.now) ≡ true }
     requires year_in { IsInRange FIRST_SEARCHED_YEAR LAST_SEARCHED_YEAR year }
-    ensures { is_year_matching (meaning_of pattern.now) (pos year) ≡ true
-        → FindsForemost day_of_date (IsInYear (meaning_of pattern.now) (pos year)) direction result }
+    ensures { is_year_matching (P.meaning pattern.now) (pos year) ≡ true
+        → FindsForemost day_of_date (IsInYear (P.meaning pattern.now) (pos year)) direction result }
 {
     in_months(pattern, year, first_month(direction), direction)
 }
 
 // The same, by the kinds of year that have a day that matches.
-fn in_open_year(
-    pattern: &CronPattern,
+fn in_open_year<P: PatternWords>(
+    pattern: &P,
     kinds: u32,
     year: u32,
     direction: Direction,
 ) -> Option<CivilDate>
-    requires shapes { has_field_shapes (meaning_of pattern.now) ≡ true }
-    requires kinds { AreYearKinds (meaning_of pattern.now) kinds }
+    requires shapes { has_field_shapes (P.meaning pattern.now) ≡ true }
+    requires kinds { AreYearKinds (P.meaning pattern.now) kinds }
     requires year_in { IsInRange FIRST_SEARCHED_YEAR LAST_SEARCHED_YEAR year }
-    ensures { is_year_matching (meaning_of pattern.now) (pos year) ≡ true
-        → FindsForemost day_of_date (IsInYear (meaning_of pattern.now) (pos year)) direction result }
+    ensures { is_year_matching (P.meaning pattern.now) (pos year) ≡ true
+        → FindsForemost day_of_date (IsInYear (P.meaning pattern.now) (pos year)) direction result }
 {
     if has_kind(kinds, year) {
         in_year(pattern, year, direction)
@@ -139,17 +145,21 @@ fn in_open_year(
 }
 
 // The first date that matches in the years from a year on, found by the kinds of the years.
-fn in_later_years(pattern: &CronPattern, year: u32, direction: Direction) -> Option<CivilDate>
-    requires shapes { has_field_shapes (meaning_of pattern.now) ≡ true }
+fn in_later_years<P: PatternWords>(
+    pattern: &P,
+    year: u32,
+    direction: Direction,
+) -> Option<CivilDate>
+    requires shapes { has_field_shapes (P.meaning pattern.now) ≡ true }
     requires year_in { IsOnTheWay direction FIRST_SEARCHED_YEAR LAST_SEARCHED_YEAR year }
-    ensures { FindsForemost day_of_date (IsInYears (meaning_of pattern.now) direction (pos year)) direction result }
+    ensures { FindsForemost day_of_date (IsInYears (P.meaning pattern.now) direction (pos year)) direction result }
 {
     let kinds = year_kinds(pattern);
     if kinds == 0 {
         return None;
     }
     let mut from = year;
-    while let Some(year) = nearest_year(&pattern.years, from, direction) {
+    while let Some(year) = nearest_year(pattern, from, direction) {
         if let Some(found) = in_open_year(pattern, kinds, year, direction) {
             return Some(found);
         }
@@ -158,14 +168,14 @@ fn in_later_years(pattern: &CronPattern, year: u32, direction: Direction) -> Opt
     None
 }
 
-// The first date that matches in the years from a year on: the first that is named is searched as it is, those after it by
+// The first date that matches in the years from a year on. The first named year is searched itself, those after it by
 // their kinds.
-fn in_years(pattern: &CronPattern, year: u32, direction: Direction) -> Option<CivilDate>
-    requires shapes { has_field_shapes (meaning_of pattern.now) ≡ true }
+fn in_years<P: PatternWords>(pattern: &P, year: u32, direction: Direction) -> Option<CivilDate>
+    requires shapes { has_field_shapes (P.meaning pattern.now) ≡ true }
     requires year_in { IsOnTheWay direction FIRST_SEARCHED_YEAR LAST_SEARCHED_YEAR year }
-    ensures { FindsForemost day_of_date (IsInYears (meaning_of pattern.now) direction (pos year)) direction result }
+    ensures { FindsForemost day_of_date (IsInYears (P.meaning pattern.now) direction (pos year)) direction result }
 {
-    let year = nearest_year(&pattern.years, year, direction)?;
+    let year = nearest_year(pattern, year, direction)?;
     if let Some(found) = in_year(pattern, year, direction) {
         return Some(found);
     }
@@ -173,14 +183,14 @@ fn in_years(pattern: &CronPattern, year: u32, direction: Direction) -> Option<Ci
 }
 
 // The first date that matches in the year of a date, in the months after its own.
-fn in_rest_of_year(
-    pattern: &CronPattern,
+fn in_rest_of_year<P: PatternWords>(
+    pattern: &P,
     date: CivilDate,
     direction: Direction,
 ) -> Option<CivilDate>
-    requires { has_field_shapes (meaning_of pattern.now) ≡ true }
+    requires { has_field_shapes (P.meaning pattern.now) ≡ true }
     ensures { FindsForemost day_of_date
-        (IsInMonths (meaning_of pattern.now) direction date.year (one_on direction (pos date.month))) direction result }
+        (IsInMonths (P.meaning pattern.now) direction date.year (one_on direction (pos date.month))) direction result }
 {
     let year = named_year(pattern, date)?;
     in_months(
@@ -192,16 +202,16 @@ fn in_rest_of_year(
 }
 
 // The first date that matches after a date. `days` are those that match in the month of the date.
-fn next_date(
-    pattern: &CronPattern,
+fn next_date<P: PatternWords>(
+    pattern: &P,
     date: CivilDate,
     days: u32,
     direction: Direction,
 ) -> Option<CivilDate>
-    requires shapes { has_field_shapes (meaning_of pattern.now) ≡ true }
+    requires shapes { has_field_shapes (P.meaning pattern.now) ≡ true }
     requires room { has_room direction date.year ≡ true }
-    requires days { IsMonthDays (meaning_of pattern.now) date.year date.month days }
-    ensures { FindsNearest day_of_date (IsMatchingDate (meaning_of pattern.now)) direction (one_on direction (day_of_date date)) result }
+    requires days { IsMonthDays (P.meaning pattern.now) date.year date.month days }
+    ensures { FindsNearest day_of_date (IsMatchingDate (P.meaning pattern.now)) direction (one_on direction (day_of_date date)) result }
 {
     if let Some(day) = day_after(days, date, direction) {
         return Some(CivilDate::from_parts_unchecked(date.year(), date.month(), day));
@@ -212,18 +222,18 @@ fn next_date(
     in_years(pattern, year_beyond(date, direction), direction)
 }
 
-// The first date that matches after a date, up to the last day that a search comes to.
+// The first date that matches after a date, up to the last day that a search reaches.
 #[tactic(auto, using(crate::proofs::civil::Foremost::up_to, crate::proofs::civil::Foremost::beyond))]
-pub(crate) fn date_after(
-    pattern: &CronPattern,
+pub(crate) fn date_after<P: PatternWords>(
+    pattern: &P,
     date: CivilDate,
     days: u32,
     direction: Direction,
 ) -> Option<CivilDate>
-    requires shapes { has_field_shapes (meaning_of pattern.now) ≡ true }
+    requires shapes { has_field_shapes (P.meaning pattern.now) ≡ true }
     requires room { has_room direction date.year ≡ true }
-    requires days { IsMonthDays (meaning_of pattern.now) date.year date.month days }
-    ensures { FindsForemost day_of_date (IsAfter (meaning_of pattern.now) direction date) direction result }
+    requires days { IsMonthDays (P.meaning pattern.now) date.year date.month days }
+    ensures { FindsForemost day_of_date (IsAfter (P.meaning pattern.now) direction date) direction result }
 {
     let found = next_date(pattern, date, days, direction)?;
     if is_reached(found, direction) {

@@ -13,7 +13,7 @@ pub(crate) fn has_day(days: u32, date: CivilDate) -> bool
     days >> (date.day() - 1) & 1 == 1
 }
 
-// The days as a word in which each has the place of its number.
+// The days as a word in which the bit of a day is its number.
 #[tactic(auto, using(crate::proofs::civil::DateSearch::day_place))]
 #[inline(always)]
 fn places(days: u32) -> u64

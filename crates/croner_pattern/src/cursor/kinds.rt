@@ -1,20 +1,20 @@
-//! The kinds of month, 28 by their length and the weekday of their first day, and the kinds of year, 14 by whether it is a leap
-//! year and the weekday of its first day.
+//! The 28 kinds of month, by length and weekday of the first day, and the 14 kinds of year, by being a leap year or not and
+//! weekday of the first day.
 ghost use Rattle.std.specs.Prelude.{◌≡◌, ◌<◌, ◌↔◌, ℕ, ◌+◌, ◌%◌, ℤ, true, pos, IsTrue};
 ghost use Rattle.std.specs.Int.{IsInRange, bit_at};
 ghost use Rattle.jiff_core.specs.Calendar.{is_leap_year, days_in_month};
-ghost use Rattle.croner_pattern.specs.Meaning.{Meaning, meaning_of};
+ghost use Rattle.croner_pattern.specs.Meaning.{Meaning};
 ghost use Rattle.croner_pattern.specs.Schedule.{first_weekday};
 ghost use Rattle.croner_pattern.specs.Shapes.{has_field_shapes};
 ghost use Rattle.croner_pattern.specs.Private.Cursor.{month_kind, year_kind, HasOpenDay, AreMonthKinds, AreYearKinds};
 
 use crate::cursor::calendar::{FIRST_SEARCHED_YEAR, LAST_SEARCHED_YEAR, first_weekday};
 use crate::cursor::values::nearest_value;
-use crate::pattern::CronPattern;
+use crate::pattern::{PatternWords, Unit, days_of_month};
 use croner_base::limits::{DAYS_PER_WEEK, LAST_MONTH};
 use croner_base::time::{Direction, day_of_year, days_in_month, is_leap_year};
 
-// A leap year and a common one. Each other year has the months of the one or of the other.
+// A leap year and a common one. Every other year has the months of one of the two.
 const LEAP_YEAR: i32 = 2000;
 
 const COMMON_YEAR: i32 = 2001;
@@ -52,13 +52,14 @@ fn year_kind(year: u32) -> u32
 
 // Which kinds of month have a day that matches, one bit a kind.
 #[tactic(auto, using(crate::proofs::civil::MonthKinds::no_month_kinds))]
-fn month_kinds(pattern: &CronPattern) -> u32
-    requires { has_field_shapes (meaning_of pattern.now) ≡ true }
-    ensures { AreMonthKinds (meaning_of pattern.now) result }
+fn month_kinds<P: PatternWords>(pattern: &P) -> u32
+    requires { has_field_shapes (P.meaning pattern.now) ≡ true }
+    ensures { AreMonthKinds (P.meaning pattern.now) result }
 {
     let mut kinds = 0;
     for kind in 0..MONTH_KINDS {
-        if pattern.days_of_month(SHORTEST_MONTH + kind / DAYS_PER_WEEK, kind % DAYS_PER_WEEK) != 0 {
+        let length = SHORTEST_MONTH + kind / DAYS_PER_WEEK;
+        if days_of_month(pattern, length, kind % DAYS_PER_WEEK) != 0 {
             kinds |= 1 << kind;
         }
     }
@@ -75,7 +76,7 @@ fn kinds_of_length(months: u32, length: u32) -> u32
     months >> month_kind(length, 0) & WEEK_BITS
 }
 
-// The bits of a week, each so many weekdays earlier.
+// The bits of a week, each moved that many weekdays earlier.
 #[tactic(auto, using(crate::proofs::civil::MonthKinds::week_turned, std::proofs::lemmas::Nat::and_le_r))]
 fn turned(week: u32, days: u32) -> u32
     requires week { week < 128 }
@@ -115,15 +116,16 @@ fn open_years(months: u32, month: u32) -> u32
 
 // Which kinds of year have a day that matches in a named month, one bit a kind.
 #[tactic(auto, using(crate::proofs::civil::FieldBits::holds_months, crate::proofs::civil::MonthKinds::no_year_kinds))]
-pub(crate) fn year_kinds(pattern: &CronPattern) -> u32
-    requires { has_field_shapes (meaning_of pattern.now) ≡ true }
-    ensures { AreYearKinds (meaning_of pattern.now) result }
+pub(crate) fn year_kinds<P: PatternWords>(pattern: &P) -> u32
+    requires { has_field_shapes (P.meaning pattern.now) ≡ true }
+    ensures { AreYearKinds (P.meaning pattern.now) result }
 {
     let months = month_kinds(pattern);
     let mut kinds = 0;
     let mut from = 1;
     while let Some(month) = nearest_value(
-        &pattern.months,
+        pattern,
+        Unit::Month,
         1,
         LAST_MONTH,
         from,

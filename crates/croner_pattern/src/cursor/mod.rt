@@ -1,7 +1,6 @@
 //! The nearest scheduled date and time on the wall clock.
 ghost use Rattle.std.specs.Prelude.{◌≡◌, true, IfSome};
 ghost use Rattle.croner_base.specs.Civil.{wall_second};
-ghost use Rattle.croner_pattern.specs.Meaning.{meaning_of};
 ghost use Rattle.croner_pattern.specs.Shapes.{has_field_shapes};
 ghost use Rattle.croner_pattern.specs.NextSecond.{FindsNearest, IsNearest, IsOpen, IsOnSchedule};
 ghost use Rattle.croner_pattern.specs.Private.Cursor.{has_room, place_in_day, FindsForemost, IsMonthDays, IsOpenTime};
@@ -18,23 +17,23 @@ use crate::cursor::calendar::has_room;
 use crate::cursor::dates::{date_after, month_days};
 use crate::cursor::days::has_day;
 use crate::cursor::times::{first_time, in_day, is_move};
-use crate::pattern::CronPattern;
+use crate::pattern::PatternWords;
 use croner_base::time::{CivilDate, CivilDateTime, CivilTime, Direction};
 
-/// The nearest scheduled date and time, from one on, itself included.
+/// The nearest scheduled date and time from a date and time on, itself included.
 ///
 /// A search steps over a year, a month, a day, an hour or a minute forward only from a year before 5000, and backward
 /// only from a year after 1. A match in the day, the hour and the minute where it stands needs no step. It answers `None`
 /// where it would have to step and does not, or where nothing is left.
-pub fn next_scheduled(
-    pattern: &CronPattern,
+pub fn next_scheduled<P: PatternWords>(
+    pattern: &P,
     from: CivilDateTime,
     direction: Direction,
 ) -> Option<CivilDateTime>
-    requires { has_field_shapes (meaning_of pattern.now) ≡ true }
-    ensures reached { FindsNearest wall_second (IsOpen (meaning_of pattern.now) direction from) direction
+    requires { has_field_shapes (P.meaning pattern.now) ≡ true }
+    ensures reached { FindsNearest wall_second (IsOpen (P.meaning pattern.now) direction from) direction
         (wall_second from) result }
-    ensures nearest { IfSome result (IsNearest wall_second (IsOnSchedule (meaning_of pattern.now)) direction
+    ensures nearest { IfSome result (IsNearest wall_second (IsOnSchedule (P.meaning pattern.now)) direction
         (wall_second from)) }
 {
     let date = from.date();
@@ -51,20 +50,20 @@ pub fn next_scheduled(
     Some(CivilDateTime::new(date, first))
 }
 
-// The nearest time that is scheduled on the day of a date and time, from it on, itself included. `days` are those that match
-// in the month. Where there is no room it goes over no hour and no minute.
+// The nearest scheduled time on the day of a date and time, from it on, itself included. `days` are those that match in the
+// month. Where there is no room it steps to no other hour or minute.
 #[inline(always)]
-fn in_own_day(
-    pattern: &CronPattern,
+fn in_own_day<P: PatternWords>(
+    pattern: &P,
     from: CivilDateTime,
     days: u32,
     room: bool,
     direction: Direction,
 ) -> Option<CivilTime>
-    requires shapes { has_field_shapes (meaning_of pattern.now) ≡ true }
-    requires days { IsMonthDays (meaning_of pattern.now) from.date.year from.date.month days }
+    requires shapes { has_field_shapes (P.meaning pattern.now) ≡ true }
+    requires days { IsMonthDays (P.meaning pattern.now) from.date.year from.date.month days }
     requires room { room ≡ has_room direction from.date.year }
-    ensures { FindsForemost place_in_day (IsOpenTime (meaning_of pattern.now) direction from) direction result }
+    ensures { FindsForemost place_in_day (IsOpenTime (P.meaning pattern.now) direction from) direction result }
 {
     if !has_day(days, from.date()) {
         return None;
@@ -82,9 +81,9 @@ fn in_own_day(
 }
 
 /// Whether a date matches.
-pub fn matches_date(pattern: &CronPattern, date: CivilDate) -> bool
-    requires { has_field_shapes (meaning_of pattern.now) ≡ true }
-    ensures { result ≡ is_date_matching (meaning_of pattern.now) date }
+pub fn matches_date<P: PatternWords>(pattern: &P, date: CivilDate) -> bool
+    requires { has_field_shapes (P.meaning pattern.now) ≡ true }
+    ensures { result ≡ is_date_matching (P.meaning pattern.now) date }
 {
     has_day(month_days(pattern, date), date)
 }

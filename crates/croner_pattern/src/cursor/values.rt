@@ -3,22 +3,22 @@ ghost use Rattle.std.specs.Prelude.{◌≡◌, ◌<◌, ◌≤◌, true, pos, ne
 ghost use Rattle.std.specs.Int.{bit_at};
 ghost use Rattle.croner_base.specs.Field.{can_ask};
 ghost use Rattle.croner_pattern.specs.Schedule.{is_plain};
+ghost use Rattle.croner_pattern.specs.Words.{field_at};
 ghost use Rattle.croner_pattern.specs.Private.Cursor.{one_on, FindsNearest, FindsForemost, AreFrom, HoldsAll, IsPlainWithin, IsOnTheWay};
 
 use crate::cursor::calendar::{FIRST_SEARCHED_YEAR, LAST_SEARCHED_YEAR};
-use crate::pattern::nearest_member;
-use croner_base::component::{ALL_BIT, CronComponent};
+use crate::pattern::{PatternWords, Unit};
 use croner_base::time::Direction;
 
-// Whether the field names the value by itself, which is one of those that it holds.
+// Whether the field names the value, one of those that it holds, as a plain value.
 #[tactic(auto, using(crate::proofs::questions::FieldShapes::marked_named, std::proofs::lemmas::Nat::Bits::shr_and_one))]
 #[inline(always)]
-pub(crate) fn is_plain(field: &CronComponent, value: u32) -> bool
+pub(crate) fn is_plain<P: PatternWords>(pattern: &P, unit: Unit, value: u32) -> bool
     requires small { value < 64 }
-    requires held { can_ask field.now.shape value 1 ≡ true }
-    ensures { result ≡ is_plain field.now value }
+    requires held { can_ask (field_at (P.meaning pattern.now) unit).shape value 1 ≡ true }
+    ensures { result ≡ is_plain (field_at (P.meaning pattern.now) unit) value }
 {
-    field.low_word(ALL_BIT) >> value & 1 == 1
+    pattern.plain(unit) >> value & 1 == 1
 }
 
 // The next number in the direction.
@@ -72,22 +72,23 @@ pub(crate) fn nearest_bit(word: u64, from: u32, direction: Direction) -> Option<
     first_bit(bits_from(word, from, direction), direction)
 }
 
-// The nearest plain value between `min` and `max`, from a value on, itself included, of a field that holds all of these.
+// The nearest plain value between `min` and `max`, from a value on, itself included. The field holds all of these values.
 #[tactic(auto, using(crate::proofs::civil::FieldBits::none_ahead, crate::proofs::civil::FieldBits::nearest_ahead, crate::proofs::civil::FieldBits::outside_ahead))]
 #[inline(always)]
-pub(crate) fn nearest_value(
-    field: &CronComponent,
+pub(crate) fn nearest_value<P: PatternWords>(
+    pattern: &P,
+    unit: Unit,
     min: u32,
     max: u32,
     from: u32,
     direction: Direction,
 ) -> Option<u32>
     requires small { max < 63 }
-    requires held { HoldsAll field.now min max }
+    requires held { HoldsAll (field_at (P.meaning pattern.now) unit) min max }
     requires from_in { IsOnTheWay direction min max from }
-    ensures { FindsNearest pos (IsPlainWithin field.now min max) direction (pos from) result }
+    ensures { FindsNearest pos (IsPlainWithin (field_at (P.meaning pattern.now) unit) min max) direction (pos from) result }
 {
-    let found = nearest_bit(field.low_word(ALL_BIT), from, direction)?;
+    let found = nearest_bit(pattern.plain(unit), from, direction)?;
     if found >= min && found <= max {
         Some(found)
     } else {
@@ -96,11 +97,15 @@ pub(crate) fn nearest_value(
 }
 
 // The nearest plain year, from a year on, itself included.
-pub(crate) fn nearest_year(years: &CronComponent, from: u32, direction: Direction) -> Option<u32>
+pub(crate) fn nearest_year<P: PatternWords>(
+    pattern: &P,
+    from: u32,
+    direction: Direction,
+) -> Option<u32>
     requires { IsOnTheWay direction FIRST_SEARCHED_YEAR LAST_SEARCHED_YEAR from }
-    ensures { FindsNearest pos (IsPlainWithin years.now FIRST_SEARCHED_YEAR LAST_SEARCHED_YEAR) direction (pos from) result }
+    ensures { FindsNearest pos (IsPlainWithin (P.meaning pattern.now).years FIRST_SEARCHED_YEAR LAST_SEARCHED_YEAR) direction (pos from) result }
 {
-    let found = u32::from(nearest_member(years, from as u16, direction)?);
+    let found = u32::from(pattern.nearest_year(from as u16, direction)?);
     if found >= FIRST_SEARCHED_YEAR && found <= LAST_SEARCHED_YEAR {
         Some(found)
     } else {
@@ -110,31 +115,37 @@ pub(crate) fn nearest_year(years: &CronComponent, from: u32, direction: Directio
 
 // The nearest plain value after a value, of a field of values from 0.
 #[inline(always)]
-pub(crate) fn nearest_beyond(
-    field: &CronComponent,
+pub(crate) fn nearest_beyond<P: PatternWords>(
+    pattern: &P,
+    unit: Unit,
     max: u32,
     value: u32,
     direction: Direction,
 ) -> Option<u32>
     requires small { max < 63 }
-    requires held { HoldsAll field.now 0 max }
+    requires held { HoldsAll (field_at (P.meaning pattern.now) unit) 0 max }
     requires within { value ≤ max }
-    ensures { FindsNearest pos (IsPlainWithin field.now 0 max) direction (one_on direction (pos value)) result }
+    ensures { FindsNearest pos (IsPlainWithin (field_at (P.meaning pattern.now) unit) 0 max) direction (one_on direction (pos value)) result }
 {
     let next = neighbour(value, direction)?;
-    nearest_value(field, 0, max, next, direction)
+    nearest_value(pattern, unit, 0, max, next, direction)
 }
 
 // The first plain value in the direction, of a field of values from 0.
 #[inline(always)]
-pub(crate) fn first_value(field: &CronComponent, max: u32, direction: Direction) -> Option<u32>
+pub(crate) fn first_value<P: PatternWords>(
+    pattern: &P,
+    unit: Unit,
+    max: u32,
+    direction: Direction,
+) -> Option<u32>
     requires small { max < 63 }
-    requires held { HoldsAll field.now 0 max }
-    ensures { FindsForemost pos (IsPlainWithin field.now 0 max) direction result }
+    requires held { HoldsAll (field_at (P.meaning pattern.now) unit) 0 max }
+    ensures { FindsForemost pos (IsPlainWithin (field_at (P.meaning pattern.now) unit) 0 max) direction result }
 {
     let from = match direction {
         Direction::Forward => 0,
         Direction::Backward => max,
     };
-    nearest_value(field, 0, max, from, direction)
+    nearest_value(pattern, unit, 0, max, from, direction)
 }

@@ -188,7 +188,7 @@ fn weekdays_text<L: Language>(
     text_list(alloc, language.list_conjunction_and(), parts.as_slice())
 }
 
-/// That a day has to be such a weekday too.
+/// That a day must also be such a weekday.
 fn if_also<L: Language>(
     alloc: Global,
     language: &L,
@@ -204,7 +204,7 @@ fn if_also<L: Language>(
     language.dom_and_dow_if_also(alloc, text.as_str())
 }
 
-/// Days of the month that have to be such weekdays too.
+/// Days of the month that must also be such weekdays.
 fn days_and_weekdays<L: Language>(
     alloc: Global,
     language: &L,
@@ -236,7 +236,7 @@ fn days_or_weekdays<L: Language>(
     Ok(format!(in alloc; "{on_days} {or} {weekdays}")?)
 }
 
-/// The days, by the star flags and the flag that joins the two fields.
+/// The days, by the flags for the two stars and for how the two fields are joined.
 pub(crate) fn day_text<L: Language>(
     alloc: Global,
     language: &L,

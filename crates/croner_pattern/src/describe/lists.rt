@@ -12,7 +12,7 @@ use std::alloc::Global;
 /// How far apart the first and the last of a range are at least: three values in a row are one.
 const RANGE_DISTANCE: u16 = 2;
 
-/// The bytes that most lists fit in. Room for them is taken at once.
+/// The bytes that most lists fit in. They are reserved at once.
 const LIST_ROOM: usize = 64;
 
 /// Writes what goes before an item, at its place from 0.
@@ -36,7 +36,7 @@ fn push_separator(
     Ok(write!(text, ", {and} ")?)
 }
 
-/// Writes an item behind its separator.
+/// Writes an item after its separator.
 fn push_item(
     text: &mut String,
     and: &str,
@@ -67,7 +67,7 @@ pub(crate) fn text_list(alloc: Global, and: &str, items: &[String]) -> Result<St
     Ok(text)
 }
 
-/// Writes an item behind a comma, if it isn't the first.
+/// Writes an item after a comma, if it isn't the first.
 fn push_joined(text: &mut String, place: usize, item: &str) -> Result<(), CronError>
     ensures { Appends (comma place true ++ item.now) text.old text.new result }
 {
@@ -88,14 +88,14 @@ pub(crate) fn join(alloc: Global, items: &[String]) -> Result<String, CronError>
     Ok(text)
 }
 
-/// Puts a text behind others.
+/// Appends a text to others.
 pub(crate) fn push_part(parts: &mut Vec<String>, part: String) -> Result<(), CronError>
     ensures { AddsTexts (string_bytes part ∷ []) parts.old parts.new result }
 {
     Ok(parts.push(part)?)
 }
 
-/// Puts a language's own text behind others.
+/// Appends a language's own text to others.
 pub(crate) fn push_phrase(
     alloc: Global,
     parts: &mut Vec<String>,
@@ -107,7 +107,7 @@ pub(crate) fn push_phrase(
     push_part(parts, part)
 }
 
-/// The name at a place. Behind the last name the first comes again.
+/// The name at a place. After the last name the first comes again.
 fn cyclic_name<'n>(names: &[&'n str], place: usize) -> &'n str
     requires { 0 < length names.now }
     ensures { result.now ≡ cyclic_name (map (λ name. name.now) names.now) place }
@@ -135,7 +135,7 @@ pub(crate) fn name_list(
     Ok(text)
 }
 
-/// Whether the value behind an index is the next number.
+/// Whether the value after an index is the next number.
 fn goes_on(values: &[u16], end: usize) -> bool
     requires { end < length values.now }
     ensures { result ≡ goes_on values.now end }
@@ -184,7 +184,7 @@ fn push_range(
     Ok(write!(text, "{first}-{last}")?)
 }
 
-/// Writes a streak of values from the first to the last: a range, or one or two numbers. Answers how many items there are then.
+/// Writes a streak of values from the first to the last: a range, or one or two numbers. Returns how many items there are then.
 fn push_streak(
     text: &mut String,
     and: &str,

@@ -25,17 +25,17 @@ pub(super) const SUNDAY: u32 = 0;
 
 pub(super) const SATURDAY: u32 = 6;
 
-/// A nearest working day lies at most two days from its target.
+/// The nearest working day is at most two days from its target.
 const NEAREST_REACH: u32 = 2;
 
 impl CronPattern {
-    /// Whether a date's day fits: the day of month, the weekday, or both, as the stars and the AND flag say.
+    /// Whether a date's day fits: by the day of month, the weekday, or both, as the stars and the AND flag say.
     ///
-    /// `weekday` is the weekday of the date; the weekdays of the month's other days are counted from it. The year and the
-    /// month aren't looked at but for the length of the month.
+    /// `weekday` is the weekday of the date; the weekdays of the month's other days are counted from it. Of the year and
+    /// the month only the month's length matters.
     ///
-    /// `InvalidDate` where the date doesn't exist. A field of another shape refuses what it can't be asked:
-    /// `ComponentError`, or `OutOfMemory` where the message finds no memory.
+    /// `InvalidDate` where the date doesn't exist. A field without the shape of its place refuses what it
+    /// can't answer: `ComponentError`, or `OutOfMemory` where there is no memory for the message.
     ///
     /// ```
     /// let job = Cron::from_str(alloc, "0 9 * * FRI#2")?;
@@ -64,10 +64,11 @@ impl CronPattern {
         self.fits(length, first_weekday(day, weekday), day)
     }
 
-    /// Whether a day of the month that the day field marks with `W` has this day as its nearest Monday-to-Friday day.
+    /// Whether this day is the nearest Monday-to-Friday day of some day that the day field marks with `W`.
     ///
-    /// `month_length` is the length of the month in days and `weekday` the weekday of the day. A field of another shape
-    /// refuses what it can't be asked: `ComponentError`, or `OutOfMemory` where the message finds no memory.
+    /// `month_length` is the length of the month in days and `weekday` the weekday of the day. A field without the
+    /// shape of its place refuses what it can't answer: `ComponentError`, or `OutOfMemory` where there is no memory for
+    /// the message.
     ///
     /// ```
     /// let job = Cron::from_str(alloc, "0 9 15W * *")?;
@@ -234,7 +235,7 @@ fn last_target(length: u32, day: u32) -> u32
     }
 }
 
-/// Whether a target is marked, and goes to the day.
+/// Whether a target is marked, and the day is its nearest Monday-to-Friday day.
 fn is_target(
     days: &CronComponent,
     length: u32,
@@ -316,7 +317,7 @@ fn is_last_named(
     Ok(marked && is_last_weekday(length, day))
 }
 
-/// The bit of the place that a day has among the like weekdays of its month.
+/// The bit for which of its weekday in the month a day is: the first to the fifth.
 fn occurrence_bit(day: u32) -> u8
     requires { IsInRange 1 31 day }
     ensures { (first : ℕ) → first < 7 → result ≡ bit_of_nth (occurrence first day) }

@@ -30,7 +30,7 @@ impl CronPattern {
         self.star_weekday
     }
 
-    /// Whether a day has to match both the day of month and the weekday, where neither is written as `*`.
+    /// Whether a day has to match both the day of month and the weekday, if neither is written as `*`.
     ///
     /// ```
     /// let parser = CronParser::builder().dom_and_dow(true).build();

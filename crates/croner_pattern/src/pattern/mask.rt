@@ -14,19 +14,22 @@ mod days;
 mod month;
 mod weekdays;
 
-use super::CronPattern;
+use super::{CronPattern, PatternWords};
 use croner_base::errors::CronError;
 use croner_base::time::Weekday;
 use days::days_named;
+pub(super) use days::marked_days;
 use month::whole_month;
+pub(super) use weekdays::marked_weekdays;
 use weekdays::weekdays_named;
 
 impl CronPattern {
-    /// The days that fit in a month of `month_length` days whose 1st has the weekday `first`: bit `day - 1` is set exactly
-    /// where the day fits, and no bit above that of the last day is.
+    /// The days that fit in a month of `month_length` days whose 1st has the weekday `first`. Bit `day - 1` is set exactly
+    /// where the day fits; the bits above the last day are 0.
     ///
-    /// A field of another shape refuses what it can't be asked about one of these days, as in
-    /// [`day_match`](Self::day_match): `ComponentError`, or `OutOfMemory` where the message finds no memory.
+    /// A field without the shape of its place refuses what it can't answer of one of these days, as in
+    /// [`day_match`](Self::day_match): `ComponentError`, or `OutOfMemory` where there is no memory for the
+    /// message.
     ///
     /// ```
     /// let job = Cron::from_str(alloc, "0 9 1,31 * *")?;
@@ -52,9 +55,9 @@ impl CronPattern {
         Ok(mask)
     }
 
-    /// The days that fit in a month of `length` days whose 1st has the weekday `first`, from 0 for Sunday: bit `day - 1` is
-    /// set exactly where the day fits, and no bit above that of the last day is. With the shapes of a pattern's fields
-    /// nothing is refused.
+    /// The days that fit in a month of `length` days whose 1st has the weekday `first`, from 0 for Sunday. Bit `day - 1` is
+    /// set exactly where the day fits; the bits above the last day are 0. With the shapes of a pattern's fields nothing is
+    /// refused.
     ///
     /// ```
     /// let job = Cron::from_str(alloc, "0 9 * * MON")?;
@@ -66,29 +69,41 @@ impl CronPattern {
         requires first { first < 7 }
         ensures { IsDayMask (meaning_of self.now) length first result }
     {
-        self.fitting(length, first) & whole_month(length)
+        days_of_month(self, length, first)
     }
+}
 
-    /// The days that fit the two day fields, as the stars and the AND flag say.
-    fn fitting(&self, length: u32, first: u32) -> u32
-        requires shapes { has_field_shapes (meaning_of self.now) ≡ true }
-        requires length { IsInRange 28 31 length }
-        requires first { first < 7 }
-        ensures { ShowsDays length (is_day_matching (meaning_of self.now) length first) result }
-    {
-        if self.star_day != self.star_weekday {
-            return if self.star_day {
-                weekdays_named(&self.days_of_week, length, first)
-            } else {
-                days_named(&self.days, length, first)
-            };
-        }
-        let days = days_named(&self.days, length, first);
-        let weekdays = weekdays_named(&self.days_of_week, length, first);
-        if self.day_and_weekday && !self.star_day {
-            days & weekdays
+/// The same of a pattern in whatever form.
+pub(crate) fn days_of_month<P: PatternWords>(pattern: &P, length: u32, first: u32) -> u32
+    requires shapes { has_field_shapes (P.meaning pattern.now) ≡ true }
+    requires length { IsInRange 28 31 length }
+    requires first { first < 7 }
+    ensures { IsDayMask (P.meaning pattern.now) length first result }
+{
+    fitting(pattern, length, first) & whole_month(length)
+}
+
+/// The days that fit the two day fields, as the stars and the AND flag say.
+fn fitting<P: PatternWords>(pattern: &P, length: u32, first: u32) -> u32
+    requires shapes { has_field_shapes (P.meaning pattern.now) ≡ true }
+    requires length { IsInRange 28 31 length }
+    requires first { first < 7 }
+    ensures { ShowsDays length (is_day_matching (P.meaning pattern.now) length first) result }
+{
+    let star_day = pattern.is_star_day();
+    let star_weekday = pattern.is_star_weekday();
+    if star_day != star_weekday {
+        return if star_day {
+            weekdays_named(pattern, length, first)
         } else {
-            days | weekdays
-        }
+            days_named(pattern, length, first)
+        };
+    }
+    let days = days_named(pattern, length, first);
+    let weekdays = weekdays_named(pattern, length, first);
+    if pattern.is_day_and_weekday() && !star_day {
+        days & weekdays
+    } else {
+        days | weekdays
     }
 }

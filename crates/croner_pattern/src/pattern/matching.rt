@@ -18,8 +18,8 @@ use croner_base::time::{YEAR_LOWER_LIMIT, YEAR_UPPER_LIMIT};
 impl CronPattern {
     /// Whether a year is named. A year outside 1 to 5000 never is.
     ///
-    /// A field of another shape refuses a year that it doesn't hold: `ComponentError`, or `OutOfMemory` where the message
-    /// finds no memory. With the shape of its place it refuses none.
+    /// A field without the shape of its place refuses a year that it doesn't hold: `ComponentError`, or `OutOfMemory`
+    /// where there is no memory for the message. With that shape it refuses none.
     ///
     /// ```
     /// let job = Cron::from_str(alloc, "0 9 * * *")?;
@@ -41,8 +41,8 @@ impl CronPattern {
 
     /// Whether a month is named.
     ///
-    /// `InvalidDate` outside 1 to 12. A field of another shape refuses a month that it doesn't hold: `ComponentError`, or
-    /// `OutOfMemory` where the message finds no memory.
+    /// `InvalidDate` outside 1 to 12. A field without the shape of its place refuses a month that it doesn't hold:
+    /// `ComponentError`, or `OutOfMemory` where there is no memory for the message.
     ///
     /// ```
     /// let job = Cron::from_str(alloc, "0 0 1 */3 *")?;
@@ -63,8 +63,8 @@ impl CronPattern {
 
     /// Whether an hour is named.
     ///
-    /// `InvalidTime` above 23. A field of another shape refuses an hour that it doesn't hold: `ComponentError`, or
-    /// `OutOfMemory` where the message finds no memory.
+    /// `InvalidTime` above 23. A field without the shape of its place refuses an hour that it doesn't hold:
+    /// `ComponentError`, or `OutOfMemory` where there is no memory for the message.
     ///
     /// ```
     /// let job = Cron::from_str(alloc, "0 9-17 * * *")?;
@@ -85,8 +85,8 @@ impl CronPattern {
 
     /// Whether a minute is named.
     ///
-    /// `InvalidTime` above 59. A field of another shape refuses a minute that it doesn't hold: `ComponentError`, or
-    /// `OutOfMemory` where the message finds no memory.
+    /// `InvalidTime` above 59. A field without the shape of its place refuses a minute that it doesn't hold:
+    /// `ComponentError`, or `OutOfMemory` where there is no memory for the message.
     ///
     /// ```
     /// let job = Cron::from_str(alloc, "*/20 * * * *")?;
@@ -106,8 +106,8 @@ impl CronPattern {
 
     /// Whether a second is named.
     ///
-    /// `InvalidTime` above 59. A field of another shape refuses a second that it doesn't hold: `ComponentError`, or
-    /// `OutOfMemory` where the message finds no memory.
+    /// `InvalidTime` above 59. A field without the shape of its place refuses a second that it doesn't hold:
+    /// `ComponentError`, or `OutOfMemory` where there is no memory for the message.
     ///
     /// ```
     /// let job = Cron::from_str(alloc, "30 9 * * *")?; // at second 0

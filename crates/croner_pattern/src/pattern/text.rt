@@ -10,7 +10,7 @@ use std::marker::Model;
 /// The longest text that is kept in place, in bytes.
 const LONGEST_IN_PLACE: usize = 48;
 
-/// A text. A short one stands in place, without a request for memory; where there is a long one, it is the text.
+/// A text. A short one is kept in place and takes no memory; if there is a long one, that is the text.
 #[derive(Drop)]
 pub struct Text {
     short: ArrayString<LONGEST_IN_PLACE>,

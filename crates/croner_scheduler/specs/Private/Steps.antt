@@ -19,7 +19,7 @@ use Rattle.croner_scheduler.specs.Kept.{FitsNext}
 abbrev pub next_of_run : {T : Type 0} → (T → Moment) → T → T → Next T
 next_of_run moment position found = if int_lt (moment position).instant (moment found).instant then Run found else Stopped NotLater
 
--- what a refusal is: the limit says that the job is over, any other but want of memory stops it
+-- what a refusal is: the limit says that the job is over, any other but lack of memory stops it
 abbrev pub next_of_refusal : {T : Type 0} → CronError → Result (Next T) AllocError
 next_of_refusal TimeSearchLimitExceeded = Ok Over
 next_of_refusal OutOfMemory = Err alloc_error

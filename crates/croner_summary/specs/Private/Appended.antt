@@ -1,4 +1,4 @@
--- A text written behind another. Private contracts alone cite these definitions.
+-- A text written after another. Private contracts alone cite these definitions.
 use Rattle.std.specs.Prelude.{◌≡◌, ℕ, ◌+◌, List, ◌++◌, map, length, drop, Result, MatchResult, string_bytes}
 use Rattle.std.specs.declared.string.String.{String}
 use Rattle.std.specs.declared.alloc.Global.{Global}
@@ -14,7 +14,7 @@ use Rattle.croner_summary.specs.Words.{piece_text, separator}
 abbrev pub Appends : {X : Type 0} → List ℕ → String Global → String Global → Result X CronError → Type 0
 Appends text old new answer = MatchResult answer (λ _. string_bytes new ≡ string_bytes old ++ text) (λ e. e ≡ OutOfMemory)
 
--- a list is written up to a place, whatever comes behind the pieces
+-- a list is written up to a place, whatever comes after the pieces
 abbrev pub WrittenTo : SummaryLanguage → Kind → List Piece → ℕ → ℕ → List ℕ → List ℕ → Type 0
 WrittenTo l kind pieces count place old text =
     (rest : List (List ℕ)) → length pieces + length rest ≡ count

@@ -1,4 +1,4 @@
-//! When most starts.
+//! When the most jobs start.
 ghost use Rattle.std.specs.Prelude.{◌≡◌, ◌++◌, ◌<◌, ◌≤◌, ℕ, length, IfOk, List, OnOk, map, string_bytes};
 ghost use Rattle.std.specs.List.{All};
 ghost use Rattle.croner_base.specs.TableZone.{table_zone};
@@ -23,10 +23,10 @@ pub struct ShownMoment {
     pub at: ClockTime,
 }
 
-/// The fullest moments of a plan, so many at most, the one with most starts first, and of equal ones the earlier; and how many starts come in
-/// each hour of the day, on all its days together.
+/// The fullest moments of a plan, at most `most`: the one with the most starts first, and of equal ones the earlier. Then how many starts
+/// each hour of the day has, on all days together.
 ///
-/// The only error is want of memory.
+/// The only error is lack of memory.
 pub fn busy_text(alloc: Global, view: View<'_>, most: usize) -> Result<String, AllocError>
     ensures { IfOk result (λ t. (shown : List ShownMoment) × (hours : List ℕ) × IsBusy (table_zone view.entry.table.now) view.entry.plan.now most shown hours × (string_bytes t ≡ busy_text shown hours)) }
 {
@@ -62,7 +62,7 @@ fn shown_moment(table: &ClockTable, moment: Moment) -> ShownMoment
     }
 }
 
-// How many starts of a plan come in each hour of the day.
+// How many starts each hour of the day has in a plan.
 fn hour_counts(alloc: Global, plan: &Plan) -> Result<Vec<u64>, AllocError>
     ensures { IfOk result (λ hours. AreHourCounts plan.now.starts.items hours.items) }
 {
@@ -131,7 +131,7 @@ impl fmt::Display for ShownMoment {
     }
 }
 
-/// So many starts: `1 start`, `5 starts`.
+/// A number of starts: `1 start`, `5 starts`.
 #[derive(Debug, Clone, Copy)]
 pub(crate) struct Starts {
     pub count: u64,
@@ -152,7 +152,7 @@ impl fmt::Display for Starts {
     }
 }
 
-// The lines of the hours, from 0 on; of one without a start there is none.
+// The lines of the hours, from 0 on; an hour without a start has none.
 #[tactic(auto, using(crate::proofs::WeekParts::hours_step))]
 fn push_hours(text: &mut String, hours: &[u64]) -> Result<(), AllocError>
     requires { length hours.now ≤ 24 }

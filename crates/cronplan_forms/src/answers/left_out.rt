@@ -9,10 +9,10 @@ use croner_base::excerpt::Excerpt;
 use cronplan::{Frequent, MOST_STARTS};
 use std::alloc::{AllocError, Global};
 
-/// What a plan leaves out: a line for each job that starts too often, with how many starts it has, and one where the plan ends before what was
-/// asked for. Nothing where it leaves nothing out.
+/// What a plan leaves out: a line for each job that starts too often, with how many starts it has, and one if the plan ends earlier than
+/// was asked for. Empty if it leaves nothing out.
 ///
-/// The only error is want of memory.
+/// The only error is lack of memory.
 pub fn left_out_text(alloc: Global, view: View<'_>) -> Result<String, AllocError>
     ensures { IfOk result (λ t. string_bytes t ≡ left_out_text view.entry.is_cut (titles_of view.entry.jobs.now) view.entry.frequent.now) }
 {

@@ -1,11 +1,13 @@
 //! What is asked of a plan.
-ghost use Rattle.std.specs.Prelude.{◌≡◌, ◌++◌, IfOk, OnOk, string_bytes};
-ghost use Rattle.cronplan_forms.specs.Questions.{IsWeekAnswer, IsQuietAnswer, IsBusyAnswer, IsTogetherAnswer, IsAnswers, asks_none, set_apart};
+ghost use Rattle.std.specs.Prelude.{◌≡◌, IfOk, string_bytes};
+ghost use Rattle.cronplan_forms.specs.Questions.{IsWeekAnswer, IsMonthAnswer, IsQuietAnswer, IsBusyAnswer, IsTogetherAnswer, IsAnswers, asks_none};
 
 use crate::answers::busy::busy_text;
 use crate::answers::left_out::left_out_text;
 use crate::answers::quiet::quiet_text;
 use crate::answers::together::together_text;
+use crate::apart::push_apart;
+use crate::month::months_text;
 use crate::view::View;
 use crate::week::{Signs, week_text};
 use std::alloc::{AllocError, Global};
@@ -15,9 +17,11 @@ use std::alloc::{AllocError, Global};
 pub struct Questions {
     /// The picture of its dates, in these signs.
     pub week: Option<Signs>,
-    /// The windows of so many seconds in which nothing starts.
+    /// A grid of titles for each of its months.
+    pub month: bool,
+    /// The windows of at least this many seconds in which nothing starts.
     pub quiet: Option<u64>,
-    /// So many of its fullest moments.
+    /// This many of its fullest moments.
     pub busy: Option<usize>,
     /// The sets of jobs that start together.
     pub together: bool,
@@ -28,25 +32,27 @@ impl Questions {
     pub fn is_none(&self) -> bool
         ensures { result ≡ asks_none self.now }
     {
-        match (self.week, self.quiet, self.busy, self.together) {
-            (None, None, None, false) => true,
+        match (self.week, self.month, self.quiet, self.busy, self.together) {
+            (None, false, None, None, false) => true,
             _ => false,
         }
     }
 }
 
-/// What a plan answers to these, each answer set apart by an empty line, and in front of them what it leaves out.
+/// What a plan answers to these: first what it leaves out, then each answer, with an empty line between them.
 ///
-/// The only error is want of memory.
+/// The only error is lack of memory.
 pub fn answers_text(alloc: Global, view: View<'_>, asked: Questions) -> Result<String, AllocError>
     ensures { IfOk result (λ t. IsAnswers view.entry asked (string_bytes t)) }
 {
     let mut text = left_out_text(alloc, view)?;
     let week = week_answer(alloc, view, asked.week)?;
+    let month = month_answer(alloc, view, asked.month)?;
     let quiet = quiet_answer(alloc, view, asked.quiet)?;
     let busy = busy_answer(alloc, view, asked.busy)?;
     let together = together_answer(alloc, view, asked.together)?;
     push_apart(&mut text, week.as_str())?;
+    push_apart(&mut text, month.as_str())?;
     push_apart(&mut text, quiet.as_str())?;
     push_apart(&mut text, busy.as_str())?;
     push_apart(&mut text, together.as_str())?;
@@ -60,6 +66,15 @@ fn week_answer(alloc: Global, view: View<'_>, signs: Option<Signs>) -> Result<St
         Some(signs) => week_text(alloc, view, signs),
         None => Ok(String::new(alloc)),
     }
+}
+
+fn month_answer(alloc: Global, view: View<'_>, is_asked: bool) -> Result<String, AllocError>
+    ensures { IfOk result (λ t. IsMonthAnswer view.entry is_asked (string_bytes t)) }
+{
+    if is_asked {
+        return months_text(alloc, view);
+    }
+    Ok(String::new(alloc))
 }
 
 fn quiet_answer(alloc: Global, view: View<'_>, least: Option<u64>) -> Result<String, AllocError>
@@ -87,14 +102,4 @@ fn together_answer(alloc: Global, view: View<'_>, is_asked: bool) -> Result<Stri
         return together_text(alloc, view);
     }
     Ok(String::new(alloc))
-}
-
-// Puts a text behind another one, with an empty line between where there is anything of both.
-fn push_apart(text: &mut String, part: &str) -> Result<(), AllocError>
-    ensures { OnOk result (string_bytes text.new ≡ set_apart (string_bytes text.old) part.now) }
-{
-    if !text.is_empty() && !part.is_empty() {
-        text.push('\n')?;
-    }
-    text.push_str(part)
 }

@@ -20,10 +20,10 @@ pub struct ShownWindow {
     pub until: ClockTime,
 }
 
-/// The windows of a plan that have so many seconds at least and in which nothing starts, the longest first, and of equal ones the earlier. A
-/// line tells from when to when it is, and how long: that is `or longer` where the plan begins or ends with it.
+/// The windows of a plan of at least `least` seconds in which nothing starts: the longest first, and of equal ones the earlier. A line says
+/// from when to when a window is, and how long. If the plan begins or ends with it, `or longer` follows.
 ///
-/// The only error is want of memory.
+/// The only error is lack of memory.
 pub fn quiet_text(alloc: Global, view: View<'_>, least: u64) -> Result<String, AllocError>
     ensures { IfOk result (λ t. (shown : List ShownWindow) × IsQuiet (table_zone view.entry.table.now) view.entry.plan.now least shown × (string_bytes t ≡ quiet_text least shown)) }
 {
@@ -68,7 +68,7 @@ fn text_of(alloc: Global, windows: &[ShownWindow], least: u64) -> Result<String,
     Ok(text)
 }
 
-// What stands in front of the windows, or where there is none.
+// The line before the windows, or the one that says there is none.
 fn push_head(text: &mut String, is_empty: bool, least: u64) -> Result<(), AllocError>
     ensures { OnOk result (string_bytes text.new ≡ string_bytes text.old ++ quiet_head is_empty least) }
 {

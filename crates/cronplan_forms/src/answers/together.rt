@@ -11,17 +11,17 @@ use croner_base::time::table::ClockTable;
 use cronplan::Together;
 use std::alloc::{AllocError, Global};
 
-/// Jobs that start together, and what the clock shows when they do so first.
+/// Jobs that start together, and what the clock shows at the first time.
 #[derive(Clone, Copy)]
 pub struct ShownSet<'s> {
     pub set: &'s Together,
     pub first: ClockTime,
 }
 
-/// The sets of jobs that start at one moment, each by the files and the lines of its jobs, with how many moments have just these, and the first
-/// of them: the set with most moments first.
+/// The sets of jobs that start at one moment, the set with the most moments first. Each has the files and lines of its jobs, how many
+/// moments have exactly these jobs, and the first of them.
 ///
-/// The only error is want of memory.
+/// The only error is lack of memory.
 pub fn together_text(alloc: Global, view: View<'_>) -> Result<String, AllocError>
     ensures { IfOk result (λ t. (shown : List ShownSet) × IsTogetherShown (table_zone view.entry.table.now) view.entry.plan.now shown × (string_bytes t ≡ together_text (labels_of view.entry.jobs.now) shown)) }
 {
@@ -98,7 +98,7 @@ fn push_times(text: &mut String, count: u64) -> Result<(), AllocError>
     write!(text, "  {count} times")
 }
 
-// Puts the labels of the jobs at these places behind a text, a plus sign between two of them.
+// Appends the labels of the jobs at these places to a text, a plus sign between two of them.
 fn push_labels(text: &mut String, jobs: &[Job<'_>], places: &[usize]) -> Result<(), AllocError>
     ensures { OnOk result (string_bytes text.new ≡ string_bytes text.old ++ joined (labels_of jobs.now) places.now) }
 {
@@ -129,7 +129,7 @@ fn push_added(text: &mut String, jobs: &[Job<'_>], place: usize) -> Result<(), A
     push_label(text, jobs, place)
 }
 
-// Puts the file and the line of the job at a place behind a text.
+// Appends the file and the line of the job at a place to a text.
 fn push_label(text: &mut String, jobs: &[Job<'_>], place: usize) -> Result<(), AllocError>
     ensures { OnOk result (string_bytes text.new ≡ string_bytes text.old ++ label_at (labels_of jobs.now) place) }
 {

@@ -19,7 +19,7 @@ pub struct Event<'e> {
     pub utc: CivilDateTime,
 }
 
-/// Puts an event behind the text of a calendar. The only error is want of memory; what then stands behind the text is not said.
+/// Appends an event to the text of a calendar. The only error is lack of memory; the text's end is then unspecified.
 #[tactic(auto, unfolding(crate::specs::Calendars::event_text))]
 pub(crate) fn push_event(
     alloc: Global,
@@ -124,7 +124,7 @@ fn push_end(alloc: Global, text: &mut String) -> Result<(), AllocError>
     push_property(alloc, text, "END", "VEVENT")
 }
 
-// The title of a job, and how often it is started where it isn't once.
+// The title of a job, and how often it is started, unless once.
 #[tactic(auto, unfolding(crate::specs::Calendars::summary_text))]
 fn summary_text(alloc: Global, event: Event<'_>) -> Result<String, AllocError>
     ensures { IfOk result (λ t. string_bytes t ≡ summary_text event.entry) }
@@ -134,7 +134,7 @@ fn summary_text(alloc: Global, event: Event<'_>) -> Result<String, AllocError>
     Ok(text)
 }
 
-// How often a job is started at one second, where it isn't once.
+// How often a job is started at one second, unless once.
 fn push_count(text: &mut String, count: u32) -> Result<(), AllocError>
     ensures { OnOk result (string_bytes text.new ≡ string_bytes text.old ++ times_text count) }
 {
@@ -144,7 +144,7 @@ fn push_count(text: &mut String, count: u32) -> Result<(), AllocError>
     write!(text, " ({count} times)")
 }
 
-// The words for a job's times, and behind a line feed its file and line.
+// The words for a job's times, and after a line feed its file and line.
 #[tactic(auto, unfolding(crate::specs::Calendars::words_text))]
 fn words_text(alloc: Global, job: Job<'_>) -> Result<String, AllocError>
     ensures { IfOk result (λ t. string_bytes t ≡ words_text job.entry) }

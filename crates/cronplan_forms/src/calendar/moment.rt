@@ -5,7 +5,7 @@ ghost use Rattle.cronplan_forms.specs.Calendars.{date_part, time_part, moment_te
 use croner_base::time::CivilDateTime;
 use std::alloc::{AllocError, Global};
 
-/// A date and a time: `20241027T023000Z`. The only error is want of memory.
+/// A date and a time: `20241027T023000Z`. The only error is lack of memory.
 #[tactic(auto, unfolding(crate::specs::Calendars::moment_text))]
 pub(crate) fn moment_text(alloc: Global, civil: CivilDateTime) -> Result<String, AllocError>
     ensures { IfOk result (λ t. string_bytes t ≡ moment_text civil) }

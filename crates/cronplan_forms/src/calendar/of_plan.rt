@@ -18,20 +18,20 @@ use croner_base::time::table::ClockTable;
 use cronplan::JobStart;
 use std::alloc::{AllocError, Global};
 
-/// What the calendar of a plan is called, and what its events have in common.
+/// The name of a plan's calendar, and what its events have in common.
 #[derive(Clone, Copy)]
 pub struct Naming<'n> {
     pub name: &'n str,
     /// When it is made, in UTC, in the years 0 to 9999.
     pub stamp: CivilDateTime,
-    /// How long each event lasts, in seconds, where that is told.
+    /// How long each event lasts, in seconds, if that is said.
     pub lasts: Option<u64>,
 }
 
-/// The file of the calendar of a plan: an event for each of its first starts, at most `MOST_EVENTS`, with what it leaves out in its
-/// description. Of equal jobs each has events of its own.
+/// The file of a plan's calendar: an event for each of its first starts, at most `MOST_EVENTS`. Its description says what it leaves
+/// out. Equal jobs each have their own events.
 ///
-/// The only error is want of memory.
+/// The only error is lack of memory.
 pub fn plan_calendar(
     alloc: Global,
     view: View<'_>,
@@ -105,7 +105,7 @@ fn event_of<'v>(utc: &ClockTable, jobs: &[Job<'v>], start: JobStart) -> Event<'v
     }
 }
 
-// The job at a place, with how many equal ones stand before it.
+// The job at a place, with how many equal ones come before it.
 fn numbered_job<'v>(jobs: &[Job<'v>], place: usize) -> Job<'v>
     ensures { IfSome (slice_get jobs.now place) (λ job. result ≡ record job { equal = equal_before place job jobs.now }) }
 {

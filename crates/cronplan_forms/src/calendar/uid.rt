@@ -1,4 +1,4 @@
-//! What a start is told apart by.
+//! The identifier of a start.
 ghost use Rattle.std.specs.Prelude.{◌≡◌, IfOk, string_bytes};
 ghost use Rattle.cronplan_forms.specs.Calendars.{key_text, namespace, name_uuid, uid_text};
 
@@ -6,7 +6,7 @@ use crate::job::Job;
 use std::alloc::{AllocError, Global};
 use uuid::Uuid;
 
-/// The UUID of a job's start at a second. It stays when other lines are put into the crontab. The only error is want of memory.
+/// The UUID of a job's start at a second. It stays the same when other lines are added to the crontab. The only error is lack of memory.
 #[tactic(auto, unfolding(crate::specs::Calendars::uid_text))]
 pub(crate) fn uid_text(alloc: Global, job: Job<'_>, second: i64) -> Result<String, AllocError>
     ensures { IfOk result (λ t. string_bytes t ≡ uid_text job.entry second) }

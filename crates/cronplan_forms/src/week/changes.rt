@@ -1,17 +1,15 @@
 //! The changes of a clock below a picture.
 ghost use Rattle.std.specs.Prelude.{◌≡◌, ◌++◌, IfOk, OnOk, map, string_bytes};
 ghost use Rattle.std.specs.List.{All};
-ghost use Rattle.cronplan_forms.specs.Weeks.{kind_text, IsShownChange, IsNamedWall, behind, date_of_wall, is_put_forward, change_line, change_lines, forward_text, back_text};
+ghost use Rattle.cronplan_forms.specs.Weeks.{kind_text, IsShownChange, IsNamedWall, behind, is_put_forward, change_line, change_lines, forward_text, back_text};
 
 use super::second_of_day;
 use crate::answers::Starts;
 use crate::clock::TimeOfDay;
-use crate::date_name::DateName;
+use crate::date_name::{DateName, date_of_wall};
 use cronplan::{ClockChange, Plan, Unit};
 use std::alloc::{AllocError, Global};
 use std::fmt;
-
-const SECONDS_PER_DAY: i64 = 86_400;
 
 /// A date and time that a clock shows, or would show: `Sun 28 Mar 02:00`.
 #[derive(Debug, Clone, Copy)]
@@ -54,13 +52,13 @@ pub struct ShownChange {
     pub change: ClockChange,
     /// What would follow what the clock showed last.
     pub behind: NamedWall,
-    /// What it shows then.
+    /// What it shows at the change.
     pub shown: NamedWall,
-    /// How many starts come with the change.
+    /// How many starts there are at the change.
     pub starts: u64,
 }
 
-/// The changes of a clock in a plan, with the dates around them. The only error is want of memory.
+/// The changes of a clock in a plan, with the dates around them. The only error is lack of memory.
 pub(crate) fn shown_changes(
     alloc: Global,
     plan: &Plan,
@@ -97,12 +95,6 @@ fn behind(change: ClockChange) -> i64
     ensures { result ≡ behind change }
 {
     change.before.saturating_add(1)
-}
-
-fn date_of_wall(wall: i64) -> i64
-    ensures { result ≡ date_of_wall wall }
-{
-    wall.div_euclid(SECONDS_PER_DAY)
 }
 
 /// Puts a line for each of these behind a text. The only error is want of memory; what then stands behind the text is not said.

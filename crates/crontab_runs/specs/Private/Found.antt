@@ -26,7 +26,7 @@ zone_in p = table_zone p.stretch.table.now
 abbrev pub least_in : Part → ℤ
 least_in p = least_minute p.job.now.is_starred p.stretch.begin p.stretch.offset p.stretch.before
 
--- its instants behind the first second of the stretch, and with it
+-- its instants after the first second of the stretch, and with it
 abbrev pub Behind : Part → ℤ → Type 0
 Behind p = IsBehind p.direction p.stretch.begin p.stretch.end p.from
 
@@ -41,7 +41,7 @@ NoneOf p among = NoStart p.direction (job_in p) (zone_in p) among
 abbrev pub IsFoundOf : Part → (ℤ → Type 0) → Start → Type 0
 IsFoundOf p among s = IsNearestStart p.direction (job_in p) (zone_in p) among s.second × IsStartOf (job_in p) (zone_in p) s
 
--- at the first second of the stretch, if it isn't behind
+-- at the first second of the stretch, if the search hasn't passed it
 abbrev pub NoneAtBegin : Part → Type 0
 NoneAtBegin p = Reaches p.direction p.from p.stretch.begin → ¬ (Starts (job_in p) (zone_in p) p.stretch.begin)
 

@@ -12,11 +12,11 @@ use Rattle.crontab_runs.specs.Starts.{NamesMinute}
 abbrev pub IsKnown : Meaning → NearestMinute → Type 0
 IsKnown m k = MatchOption k.nearest (NoneNamed k.direction m k.from) (IsNearestNamed k.direction m k.from)
 
--- it is so from another minute on, too: that one lies behind, and up to the minute that was found
+-- it is so from another minute on, too: that one comes after, and up to the minute that was found
 abbrev pub Serves : NearestMinute → ℤ → Type 0
 Serves k from = Reaches k.direction k.from from × IfSome k.nearest (λ minute. Reaches k.direction from minute)
 
--- from one minute on those that are named begin with another, or lie behind it
+-- from one minute on those that are named begin with another, or come after it
 abbrev pub AreAllFrom : Direction → Meaning → ℤ → ℤ → Type 0
 AreAllFrom direction m from first = (k : ℤ) → Reaches direction from k → NamesMinute m k → Reaches direction first k
 

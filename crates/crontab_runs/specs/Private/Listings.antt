@@ -8,7 +8,7 @@ use Rattle.crontab_runs.specs.declared.listing.StartsEnd.{StartsEnd}
 use Rattle.crontab_runs.specs.declared.listing.StartsEnd.TheVariants as ends
 use Rattle.crontab_runs.specs.Listing.{Steps}
 
--- the call put its start behind the others; or it ended the listing, which keeps its starts
+-- the call put its start after the others; or it ended the listing, which keeps its starts
 abbrev pub TakesUntil : Option ℤ → StartIterator → StartIterator → List Start → List Start → Option StartsEnd → Type 0
 TakesUntil until old new before after None = (s : Start) × Steps old (Some s) new × ComesBy old.direction until s.second × (after ≡ before ++ s ∷ [])
 TakesUntil until old new before after (Some ends.Full) = ⊥

@@ -1,4 +1,4 @@
--- The starts in a stretch of a clock: at its first second, and at the whole minutes behind it.
+-- The starts in a stretch of a clock: at its first second, and at the whole minutes after it.
 -- Private contracts alone cite these definitions.
 use Rattle.std.specs.Prelude.{◌≡◌, ◌⊎◌, Bool, true, if◌then◌else◌, ℤ, pos, ◌+ℤ◌, ◌*ℤ◌, ◌<ℤ◌, ◌≤ℤ◌}
 use Rattle.std.specs.Int.{int_max, int_min}
@@ -10,16 +10,18 @@ use Rattle.croner.specs.search.Limit.{IsWithin}
 use Rattle.croner.specs.search.Runs.{NearestWhere}
 use Rattle.crontab_runs.specs.Starts.{minute_of, CronJob, Starts}
 
--- the least minute that begins behind the first second, and that a starless job hasn't seen
+-- the least minute that begins after the first second, and that a starless job hasn't seen
 abbrev pub least_minute : Bool → ℤ → ℤ → ℤ → ℤ
 least_minute starred begin offset before =
     if starred then minute_of (begin +ℤ offset) +ℤ pos 1 else int_max (minute_of (begin +ℤ offset) +ℤ pos 1) (minute_of before +ℤ pos 1)
 
--- the least minute that something can be started for from the first second on: the one that is shown there, or the one behind the greatest before
+-- the least minute that something can be started for from the first second on: the one that is shown there, or the one after the greatest
+-- before
 abbrev pub least_behind : ℤ → ℤ → ℤ → ℤ
 least_behind begin offset before = int_min (minute_of (begin +ℤ offset)) (minute_of before +ℤ pos 1)
 
--- the minute from which one is sought, from a wall second on: forward the first that begins there or later, and no lesser one than the least
+-- the minute from which one is sought, from a wall second on: forward the first that begins there or later, and no lesser one than the
+-- least
 abbrev pub minute_from : Direction → ℤ → ℤ → ℤ
 minute_from Forward wall least = int_max (minute_of (wall +ℤ pos 59)) least
 minute_from Backward wall least = minute_of wall
@@ -30,7 +32,7 @@ pub record IsMinuteStart (job : CronJob) (offset before i m : ℤ) : Type 0 wher
   pub named : job.names m
   pub fresh : (job.starred ≡ true) ⊎ (minute_of before <ℤ m)
 
--- an instant behind the first second of a stretch, from one on
+-- an instant after the first second of a stretch, from one on
 abbrev pub IsBehind : Direction → ℤ → ℤ → ℤ → ℤ → Type 0
 IsBehind direction begin end from i = (begin <ℤ i) × (i <ℤ end) × Reaches direction from i
 

@@ -38,7 +38,7 @@ abbrev pub FromStretch : Direction → Stretch → ℤ → ℤ → Type 0
 FromStretch Forward s from i = (s.begin ≤ℤ i) × Reaches Forward from i
 FromStretch Backward s from i = (i <ℤ s.end) × Reaches Backward from i
 
--- nothing is started in the stretch, and the searched years go on behind it
+-- nothing is started in the stretch, and the searched years go on beyond it
 pub record GoesOn (direction : Direction) (job : CronJob) (s : Stretch) (from : ℤ) : Type 0 where
   pub none : (i : ℤ) → InStretch direction s from i → ¬ (Starts job (table_zone s.table.now) i)
   pub within : IsWithin direction (far_wall direction s)

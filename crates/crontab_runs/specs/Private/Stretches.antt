@@ -1,5 +1,5 @@
--- The stretches of the clock of a table in which it doesn't change: the first goes up to the first change, each other one begins at a change.
--- Private contracts alone cite these definitions.
+-- The stretches of the clock of a table in which it doesn't change: the first goes up to the first change, each other one begins at a
+-- change. Private contracts alone cite these definitions.
 use Rattle.std.specs.Prelude.{◌≡◌, ℕ, zero, suc, nat_lt, if◌then◌else◌, ℤ, pos, neg_ℤ, ◌+ℤ◌, ◌-ℤ◌, ◌<ℤ◌, ◌≤ℤ◌, List, length, slice_index_or}
 use Rattle.croner_base.specs.Limits.{fold_limit}
 use Rattle.croner_base.specs.Table.{offset_limit}
@@ -10,7 +10,7 @@ use Rattle.croner_base.specs.Zone.{Zone}
 abbrev pub far : ℕ
 far = 1_000_000_000_000
 
--- the first second of the stretch after so many changes, and the second behind its last
+-- the first second of the stretch after so many changes, and the second after its last
 abbrev pub begin_of : List (ℤ × ℤ) → ℕ → ℤ
 begin_of cs zero = neg_ℤ (pos far)
 begin_of cs (suc n) = (slice_index_or cs n (pos 0, pos 0)).0

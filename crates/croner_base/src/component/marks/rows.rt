@@ -74,7 +74,7 @@ pub fn word(words: &[u64], max: u16, supported: u8, k: u8, i: usize) -> u64
     }
 }
 
-/// Marks the value with the modifier, or takes the modifier off it.
+/// Marks the value with the modifier, or removes the modifier from it.
 fn turn(words: &mut [u64], max: u16, supported: u8, k: u8, value: u16, on: bool)
     requires modifier { k < 8 }
     requires is_supported { bit_at supported k ≡ 1 }
@@ -140,7 +140,7 @@ pub fn sum(words: &[u64], max: u16, supported: u8, value: u16) -> u8
     sum
 }
 
-/// Marks the value with each modifier of `bits`, or takes each off it.
+/// Marks the value with each modifier of `bits`, or removes each from it.
 #[tactic(auto, using(crate::proofs::words::ModifiersInTurn::bit_supported))]
 pub fn turn_each(words: &mut [u64], max: u16, supported: u8, bits: u8, value: u16, on: bool)
     requires are_supported { bit_and supported bits ≡ bits }

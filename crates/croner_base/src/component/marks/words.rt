@@ -7,7 +7,7 @@ use std::alloc::{AllocError, Global};
 /// How many values a word has, one bit each.
 pub const WORD_BITS: u16 = u64::BITS as u16;
 
-/// The modifiers that there are, and so the most rows.
+/// How many modifiers there are, and so the most rows.
 pub const MODIFIERS: usize = 8;
 
 /// The bits of all modifiers.
@@ -20,7 +20,7 @@ pub enum Shown<'a> {
     OnHeap(&'a [u64]),
 }
 
-/// The same words, each by itself: so they go from place to place by registers, and not by way of a third place.
+/// The same words, copied one by one: so they move through registers, without a temporary copy in memory.
 #[inline(always)]
 pub fn same_words(words: &[u64; MODIFIERS]) -> [u64; MODIFIERS]
     ensures { result ≡ words.now }
@@ -40,7 +40,7 @@ pub fn copied_words(alloc: Global, words: &[u64]) -> Result<Vec<u64>, AllocError
     copied_to_heap(alloc, words)
 }
 
-// A function of its own, so that a clone of a field in place doesn't have its steps.
+// Apart, so that the clone of a field in place doesn't contain its code.
 #[inline(never)]
 fn copied_to_heap(alloc: Global, words: &[u64]) -> Result<Vec<u64>, AllocError>
     ensures { IfOk result (λ copy. copy.items ≡ words.now) }
@@ -48,7 +48,7 @@ fn copied_to_heap(alloc: Global, words: &[u64]) -> Result<Vec<u64>, AllocError>
     Vec::from_slice(alloc, words)
 }
 
-/// Whether the words are the same. All are looked at, so that several can be at once.
+/// Whether the words are the same. All are compared, so that several can be compared at once.
 #[inline(always)]
 #[tactic(auto, using(crate::proofs::words::Differing::same_one_more, crate::proofs::words::Differing::same_lists))]
 pub fn are_same(words: &[u64], others: &[u64]) -> bool

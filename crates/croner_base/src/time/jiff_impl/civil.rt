@@ -1,4 +1,4 @@
-//! Civil date-times of `jiff` as time values: on their clock each second from year -9999 to 9999 stands once.
+//! Civil date-times of `jiff` as time values: their clock shows each second from year -9999 to 9999 once.
 ghost use Rattle.std.specs.Prelude.{◌≡◌, ◌↔◌, false, IsOk, IfOk, IfErr};
 ghost use Rattle.std.proofs.Common.{ap};
 ghost use Rattle.jiff_core.specs.Calendar.{IsYear};

@@ -27,7 +27,7 @@ fn shown(zoned: &Zoned<'_>) -> DateTime
     }
 }
 
-// Of two instants those at which their clock shows the date-time, each once and the earlier first.
+// Those of two instants at which their clock shows the date-time: each once, the earlier first.
 fn showing<'a>(datetime: DateTime, one: Zoned<'a>, other: Zoned<'a>) -> Resolution<Zoned<'a>>
     ensures { result ≡ chosen (is_showing one.entry datetime) (is_showing other.entry datetime) one.entry other.entry }
 {
@@ -51,7 +51,7 @@ fn in_order<'a>(one: Zoned<'a>, other: Zoned<'a>) -> Resolution<Zoned<'a>>
 }
 
 // The instants of the value's zone that show the second. Where the clock is moved, `jiff` offers an earlier and a later
-// choice of offset: only those count that really show the second.
+// choice of offset: only those that really show the second count.
 fn resolved<'a>(zoned: &Zoned<'a>, civil: CivilDateTime) -> Result<Resolution<Zoned<'a>>, CronError>
     ensures held { IsOk result ↔ IsTrue (is_near_year civil.date.year) }
     ensures value { IfOk result (IsResolved value_moment (value_moment zoned.now).zone civil) }

@@ -1,4 +1,4 @@
-//! Which first offsets and changes make a calm clock.
+//! Which first offsets and lists of changes make a calm clock.
 ghost use Rattle.std.specs.Prelude.{◌≡◌, ◌↔◌, ◌≤◌, IsTrue, IsSome, IfSome, ◌≤ℤ◌};
 ghost use Rattle.croner_base.specs.Table as Spec;
 ghost use Rattle.croner_base.specs.Limits.{gap_limit, most_changes, most_gap_seconds};
@@ -17,13 +17,13 @@ pub(crate) const OFFSET_LIMIT_SECONDS: i32 = 86_400;
 /// The most seconds that a change moves the clock back.
 const FOLD_LIMIT_SECONDS: i32 = 7_200;
 
-/// Changes lie more than so many seconds apart.
+/// Changes lie more than this many seconds apart.
 const APART_SECONDS: i64 = 172_800;
 
 /// The most changes with a reading in the years that a pattern can name.
 const MOST_CHANGES: u32 = 20_000;
 
-/// The most seconds that the clock skips at these changes together.
+/// The most seconds that the clock skips at these changes in total.
 const MOST_GAP_SECONDS: u32 = 20_000_000;
 
 // Whether a first offset and changes make a calm clock.
@@ -68,7 +68,7 @@ struct Tally {
 impl Tally {
     ghost use Rattle.croner_base.specs.Private.TableSteps.{known_after, known_by, IsNextChange};
 
-    // One change more, or nothing where the table is refused for it.
+    // The tally with one change more, or `None` where that change makes the table refused.
     fn with(self, change: (i64, i32)) -> Option<Tally>
         ensures some { IsSome result ↔ IsNextChange (known_by self) change }
         ensures value { IfSome result (λ t. known_by t ≡ known_after (known_by self) change) }
@@ -100,7 +100,7 @@ fn is_offset(offset: i32) -> bool
     -OFFSET_LIMIT_SECONDS <= offset && offset <= OFFSET_LIMIT_SECONDS
 }
 
-// Whether the clock is moved from one offset to the other, and by little.
+// Whether two offsets differ, and by no more than a calm clock allows.
 fn is_step(before: i32, after: i32) -> bool
     requires before_in { IsTrue (Spec.is_offset before) }
     requires after_in { IsTrue (Spec.is_offset after) }

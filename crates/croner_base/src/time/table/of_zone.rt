@@ -27,22 +27,22 @@ const NANOS_PER_SECOND: i128 = 1_000_000_000;
 /// The seconds of 400 years, after which a rule names the same days of the week again.
 const PERIOD_SECONDS: i64 = 12_622_780_800;
 
-/// -9998-01-01T00:00:00 UTC: from here to the second below no offset leads out of the years that `jiff` has, so that a
-/// rule is read alike in each period.
+/// -9998-01-01T00:00:00 UTC: from here to `LAST_REPEATED` no offset leads out of `jiff`'s years, so a rule reads the
+/// same in each period.
 const FIRST_REPEATED: i64 = -377_673_580_800;
 
 /// 9998-12-31T23:59:59 UTC.
 const LAST_REPEATED: i64 = 253_370_764_799;
 
 impl ClockTable {
-    /// The clock of a time zone in a window, from its first second to its last, in seconds since
-    /// 1970-01-01T00:00:00 UTC. At each whole second of the window it shows what the zone shows; before the window it
-    /// keeps the offset of the first second, and behind it that of the last.
+    /// The clock of a time zone in a window, from its first second to its last, in seconds since 1970-01-01T00:00:00
+    /// UTC. At each whole second of the window it shows what the zone shows. Before the window it keeps the offset of
+    /// the first second, and after the window that of the last.
     ///
-    /// The window has a table exactly where that clock is calm, as [`ClockTable::new`] has it. So this is also the
-    /// test whether a zone is calm in a window. Refused as `InvalidTime` otherwise, where the last second lies before
-    /// the first, and outside -377,705,023,201 to 253,402,207,200, the seconds of `jiff`'s instants. `OutOfMemory` for
-    /// want of memory for the changes.
+    /// The window has a table exactly where that clock is calm, by the limits of [`ClockTable::new`], so this is also
+    /// the test whether a zone is calm in a window. `InvalidTime` where it isn't, where the last second is before the
+    /// first, and where one of them is outside -377,705,023,201 to 253,402,207,200, the seconds of `jiff`'s instants.
+    /// `OutOfMemory` where there is no memory for the changes.
     ///
     /// ```
     /// let zones = TimeZoneDatabase::from_env(&rt)?;
@@ -126,8 +126,8 @@ fn add_asked(
     Ok(())
 }
 
-// Where the zone goes by its rule for a period or more, adds the changes up to the end of the last whole one, which is
-// answered; else none.
+// Where the zone follows its rule for a whole period or more, adds the changes up to the end of the last one, and
+// returns that end; else adds none.
 fn add_ruled(
     changes: &mut Vec<(i64, i32)>,
     zone: jiff_tz::TimeZone<'_>,
@@ -147,7 +147,7 @@ fn add_ruled(
     add_periods(changes, zone, ruled, end)
 }
 
-// From what second on the zone goes by its rule alone, if it has one, in the years that are repeated.
+// The second from which the zone follows its rule alone, if it has one, in the years that are repeated.
 fn ruled_from(zone: jiff_tz::TimeZone<'_>) -> i64
     ensures held { IsHeld result }
     ensures repeats { Repeats zone.entry result }
@@ -161,7 +161,8 @@ fn ruled_from(zone: jiff_tz::TimeZone<'_>) -> i64
     }
 }
 
-// Adds the changes of one period, which it asks for, and of the whole periods behind it; answers where the last one ends.
+// Adds the changes of one period, for which it asks the zone, and repeats them in the whole periods after it. Returns
+// where the last one ends.
 fn add_periods(
     changes: &mut Vec<(i64, i32)>,
     zone: jiff_tz::TimeZone<'_>,
@@ -186,7 +187,7 @@ fn add_periods(
     Ok(end)
 }
 
-// Adds the last so many changes again, a period later.
+// Adds the last `count` changes again, a period later.
 fn add_again(changes: &mut Vec<(i64, i32)>, count: usize) -> Result<(), AllocError>
     requires some { count ≤ vec_len changes.old }
     requires held { All (λ c. c.0 ≤ℤ last_timestamp) (drop (vec_len changes.old - count) changes.old.items) }
@@ -200,8 +201,8 @@ fn add_again(changes: &mut Vec<(i64, i32)>, count: usize) -> Result<(), AllocErr
     Ok(())
 }
 
-// The first second after another at which the zone may show another offset, and at most the last of the window: the
-// zone's next transition, or the first second of the next UTC year, at which a rule may change without one.
+// The next second at which the zone may show another offset, and at most the last of the window: that of the next
+// transition, or the first of the next UTC year, since a rule may begin there without a transition.
 fn next_question(zone: jiff_tz::TimeZone<'_>, second: i64, last: i64) -> i64
     requires held { IsHeld second }
     requires order { second <ℤ last }
@@ -216,7 +217,7 @@ fn next_question(zone: jiff_tz::TimeZone<'_>, second: i64, last: i64) -> i64
     }
 }
 
-// The first second of the UTC year after that of an instant.
+// The first second of the UTC year after the year of an instant.
 fn year_end(instant: Timestamp) -> i64
     ensures { IsYearEnd instant.nanosecond result }
 {

@@ -8,11 +8,12 @@ ghost use Rattle.croner_pattern.specs.Days.{days_of, weekday_of, is_nearest};
 ghost use Rattle.croner_pattern.specs.Private.DayBits.{has_bit, ShowsDays};
 ghost use Rattle.croner_pattern.specs.Questions.{is_named_last};
 ghost use Rattle.croner_pattern.specs.Schedule.{is_day_side};
-ghost use Rattle.croner_pattern.specs.Shapes.{day_shape, is_like};
+ghost use Rattle.croner_pattern.specs.Shapes.{has_field_shapes};
 
 use super::month::{WEEK_BITS, days_of_weekdays, whole_month};
+use crate::pattern::PatternWords;
 use crate::pattern::days::{SATURDAY, SUNDAY, last_working};
-use croner_base::component::{ALL_BIT, CLOSEST_WEEKDAY_BIT, CronComponent, LAST_BIT};
+use croner_base::component::CronComponent;
 
 /// Bits 0 to 30, for the days 1 to 31.
 const MONTH_BITS: u64 = 0x7FFF_FFFF;
@@ -26,34 +27,34 @@ const WORKING_DAYS: u32 = WEEK_BITS - SUNDAYS - SATURDAYS;
 
 /// The days that fit the field.
 #[inline(always)]
-pub fn days_named(days: &CronComponent, length: u32, first: u32) -> u32
-    requires shape { is_like days.now.shape day_shape ≡ true }
+pub fn days_named<P: PatternWords>(pattern: &P, length: u32, first: u32) -> u32
+    requires shapes { has_field_shapes (P.meaning pattern.now) ≡ true }
     requires length { IsInRange 28 31 length }
     requires first { first < 7 }
-    ensures { ShowsDays length (is_day_side days.now length first) result }
+    ensures { ShowsDays length (is_day_side (P.meaning pattern.now).days length first) result }
 {
-    let nearest = nearest_working(marked(days, CLOSEST_WEEKDAY_BIT), length, first);
-    marked(days, ALL_BIT) | named_last(days, length, first) | nearest
+    let nearest = nearest_working(pattern.nearest_days(), length, first);
+    pattern.plain_days() | named_last(pattern, length, first) | nearest
 }
 
 /// The days that are marked with a modifier.
 #[inline(always)]
-fn marked(days: &CronComponent, bit: u8) -> u32
+pub fn marked_days(days: &CronComponent, bit: u8) -> u32
     ensures { ShowsDays 31 (is_marked bit days.now) result }
 {
     (days.low_word(bit) >> 1 & MONTH_BITS) as u32
 }
 
 /// `L` names the month's last day; `LW`, also beside an `L`, its last Monday-to-Friday day.
-fn named_last(days: &CronComponent, length: u32, first: u32) -> u32
+fn named_last<P: PatternWords>(pattern: &P, length: u32, first: u32) -> u32
     requires length { IsInRange 28 31 length }
     requires first { first < 7 }
-    ensures { ShowsDays length (is_named_last days.now length first) result }
+    ensures { ShowsDays length (is_named_last (P.meaning pattern.now).days length first) result }
 {
-    if !days.is_feature_enabled(LAST_BIT) {
+    if !pattern.has_last_day() {
         return 0;
     }
-    let last = if days.is_feature_enabled(CLOSEST_WEEKDAY_BIT) {
+    let last = if pattern.has_nearest_day() {
         last_working(length, first)
     } else {
         length

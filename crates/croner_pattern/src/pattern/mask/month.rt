@@ -10,7 +10,7 @@ use croner_base::limits::DAYS_PER_WEEK;
 /// The seven days of a week, from the lowest bit.
 pub const WEEK_BITS: u32 = 0x7F;
 
-/// Times this, seven bits stand five times, a week apart: 1 + 2^7 + 2^14 + 2^21 + 2^28.
+/// A product with this repeats seven bits five times, a week apart: 1 + 2^7 + 2^14 + 2^21 + 2^28.
 const FIVE_WEEKS: u32 = 0x1020_4081;
 
 /// Each day of a month, and no bit above its last.
@@ -29,7 +29,7 @@ pub fn last_week(length: u32) -> u32
     WEEK_BITS << (length - DAYS_PER_WEEK)
 }
 
-/// The days whose weekday is in a set of them, which has bit 0 for Sunday to bit 6 for Saturday.
+/// The days whose weekday is in a set, with bit 0 for Sunday to bit 6 for Saturday.
 pub fn days_of_weekdays(weekdays: u32, first: u32) -> u32
     requires weekdays { weekdays < 128 }
     requires first { first < 7 }

@@ -1,4 +1,4 @@
-use Rattle.std.proofs.Common.{◌≡◌, ◌∙◌, ◌++◌, ℤ, pos, ap, sym, arith, get_or, length, List}
+use Rattle.std.proofs.Common.{◌∙◌, ◌++◌, ℤ, pos, ap, sym, arith, get_or, length, List}
 use Rattle.std.proofs.lemmas.List.{take_all}
 use Rattle.croner_base.specs.TableZone.{table_zone}
 use Rattle.croner_base.specs.Zone.{Zone}

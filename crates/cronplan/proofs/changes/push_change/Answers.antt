@@ -1,4 +1,4 @@
-use Rattle.std.proofs.Common.{◌≡◌, ◌∙◌, ◌++◌, ◌-ℤ◌, ◌≤ℤ◌, ◌<ℤ◌, ℤ, pos, ap, rules, arith, List, w64, to_z, of_z, FitsSigned}
+use Rattle.std.proofs.Common.{◌∙◌, ◌++◌, ◌≤ℤ◌, ◌<ℤ◌, ℤ, ap, rules, arith, List, w64, to_z, of_z, FitsSigned}
 use Rattle.std.proofs.lemmas.Int.{ints, to_z-of_z}
 use Rattle.croner_base.specs.TableZone.{table_zone}
 use Rattle.croner_base.specs.Zone.{Zone}

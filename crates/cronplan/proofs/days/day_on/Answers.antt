@@ -1,7 +1,6 @@
-use Rattle.std.proofs.Common.{◌≡◌, ◌∙◌, ap, sym, subst, w64, to_z, of_z, ℤ, List}
+use Rattle.std.proofs.Common.{◌≡◌, ◌∙◌, ap, subst, w64, to_z, of_z, ℤ}
 use Rattle.std.proofs.lemmas.Int.{to_z-of_z}
 use Rattle.cronplan.specs.declared.counts.Unit.TheVariants as units
-use Rattle.cronplan.specs.declared.moments.Moment.{Moment}
 use Rattle.cronplan.specs.Counts.{starts_at}
 use Rattle.cronplan.specs.Days.{AreHours, fullest_on}
 use Rattle.cronplan.proofs.days.day_on.Goals as goal

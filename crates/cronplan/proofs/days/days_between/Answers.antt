@@ -1,9 +1,8 @@
-use Rattle.std.proofs.Common.{◌≡◌, ◌∙◌, ◌+ℤ◌, ◌<◌, ◌+◌, ◌-ℤ◌, ◌≤ℤ◌, ℕ, ℤ, pos, ap, sym, subst, arith, length, List, w64, to_z, of_z, int_lt, cond, unsigned_abs, Bool, true, false}
+use Rattle.std.proofs.Common.{◌≡◌, ◌∙◌, ◌+ℤ◌, ◌<◌, ◌≤ℤ◌, ℕ, ℤ, pos, ap, subst, arith, length, w64, to_z, of_z}
 use Rattle.std.proofs.lemmas.Int.{ints, to_z-of_z}
 use Rattle.cronplan.specs.declared.days.Day.{Day}
-use Rattle.cronplan.specs.declared.start.JobStart.{JobStart}
 use Rattle.cronplan.specs.Days.{IsDay, dates_between}
-use Rattle.cronplan.specs.Private.CountedPlan.{IsCounted, AreRows, IsDateNumber}
+use Rattle.cronplan.specs.Private.CountedPlan.{AreRows}
 use Rattle.cronplan.proofs.DayCells.{each_more, within_dates, number_within}
 use Rattle.cronplan.proofs.days.days_between.Goals as goal
 

@@ -1,4 +1,4 @@
-use Rattle.std.proofs.Common.{◌≡◌, ◌∙◌, ◌+ℤ◌, ◌*ℤ◌, ℕ, ℤ, pos, ap, arith, length, List, w64, to_z, of_z}
+use Rattle.std.proofs.Common.{◌≡◌, ◌∙◌, ◌+ℤ◌, ◌*ℤ◌, ℕ, ℤ, pos, ap, arith, length, w64, to_z, of_z}
 use Rattle.std.proofs.lemmas.Int.{ints, to_z-of_z}
 use Rattle.cronplan.specs.declared.days.HourCell.{HourCell}
 use Rattle.cronplan.specs.Days.{cell_of}

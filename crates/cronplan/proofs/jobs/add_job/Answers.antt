@@ -1,4 +1,4 @@
-use Rattle.std.proofs.Common.{◌≡◌, ◌↔◌, ℤ, List, refl, sym, subst, rules, w64, FitsSigned, to_z, of_z}
+use Rattle.std.proofs.Common.{◌↔◌, ℤ, List, refl, subst, rules, w64, FitsSigned, to_z, of_z}
 use Rattle.std.specs.Prelude.{IsTrue}
 use Rattle.std.proofs.lemmas.Int.{to_z-of_z}
 use Rattle.croner_base.specs.TableZone.{table_zone}

@@ -1,14 +1,14 @@
-use Rattle.std.proofs.Common.{◌≡◌, ◌∙◌, ◌+◌, ◌<◌, ◌≤◌, ◌≤ℤ◌, ℕ, ℤ, List, [], ◌∷◌, ◌++◌, Option, length, get_or, take, fold, ap, refl, sym, subst, arith, rules, w64, FitsSigned, to_z, of_z}
-use Rattle.std.proofs.lemmas.Int.{ints, to_z-of_z}
+use Rattle.std.proofs.Common.{◌≡◌, ◌∙◌, ◌+◌, ◌<◌, ◌≤ℤ◌, ℤ, List, [], ◌∷◌, ◌++◌, length, take, fold, ap, sym, subst, arith, rules, w64, FitsSigned, to_z, of_z}
+use Rattle.std.proofs.lemmas.Int.{to_z-of_z}
 use Rattle.std.proofs.lemmas.List.{take_more, length-take-le, take_all}
-use Rattle.std.specs.List.{All, flat_map}
+use Rattle.std.specs.List.{All}
 use Rattle.croner_base.specs.TableZone.{table_zone}
 use Rattle.cronplan.specs.declared.listing.Schedule.{Schedule}
 use Rattle.cronplan.specs.declared.start.JobStart.{JobStart}
-use Rattle.cronplan.specs.Jobs.{AreSeen, shown_of, named_of, end_with}
+use Rattle.cronplan.specs.Jobs.{AreSeen, end_with}
 use Rattle.cronplan.specs.Starts.{Merges}
 use Rattle.cronplan.proofs.GatheredJobs.{Gathered, gathered_none, gathered_more}
-use Rattle.cronplan.proofs.SpanSeconds.{Spans, span_at}
+use Rattle.cronplan.proofs.SpanSeconds.{span_at}
 use Rattle.cronplan.proofs.jobs.plan_of.Goals as goal
 
 pub loop-place-init : goal.loop-place-init

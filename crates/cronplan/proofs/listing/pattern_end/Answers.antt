@@ -1,4 +1,4 @@
-use Rattle.std.proofs.Common.{◌≡◌, ◌∙◌, ◌-◌, ◌⊎◌, inr, ℤ, map, length, sym, subst, rules, w64, FitsSigned, to_z, of_z}
+use Rattle.std.proofs.Common.{◌∙◌, ◌-◌, inr, map, length, sym, subst, rules, w64, FitsSigned, to_z, of_z}
 use Rattle.std.proofs.lemmas.Int.{to_z-of_z}
 use Rattle.std.specs.List.{Contains}
 use Rattle.croner_base.specs.declared.time.table.TableTime.{TableTime}

@@ -1,11 +1,10 @@
-use Rattle.std.proofs.Common.{◌≡◌, ◌∙◌, ◌-ℤ◌, pos, false, ℤ, List, map, Option, Some, ap, sym, subst, rules, w64, FitsSigned, to_z, of_z}
+use Rattle.std.proofs.Common.{◌∙◌, ◌-ℤ◌, pos, false, ℤ, List, map, Option, Some, ap, sym, subst, rules, w64, FitsSigned}
 use Rattle.std.proofs.lemmas.Int.{to_z-of_z}
 use Rattle.croner_base.specs.declared.time.Direction.TheVariants.{Forward}
 use Rattle.croner_base.specs.declared.time.table.TableTime.{TableTime}
 use Rattle.croner_base.specs.TableZone.{table_zone, table_moment}
 use Rattle.croner_base.specs.Zone.{Zone}
 use Rattle.croner.specs.declared.job.Cron.{Cron}
-use Rattle.croner.specs.declared.laws.listing.ListingEnd.TheVariants as listing
 use Rattle.croner.specs.iterator.Listing.{Standing, standing_of, new_standing}
 use Rattle.croner.specs.laws.Until.{ListsUntil}
 use Rattle.croner.specs.Views.{job_of}

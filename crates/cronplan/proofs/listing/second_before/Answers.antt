@@ -1,4 +1,4 @@
-use Rattle.std.proofs.Common.{◌∙◌, refl, arith, pos, ◌-ℤ◌, FitsSigned, w64}
+use Rattle.std.proofs.Common.{refl, arith, pos, ◌-ℤ◌, FitsSigned, w64}
 use Rattle.std.proofs.lemmas.Bool.{false≢true}
 use Rattle.std.proofs.lemmas.Int.{ints, to_z-of_z}
 use Rattle.cronplan.proofs.SpanSeconds.{Spans, span_at, held_before}

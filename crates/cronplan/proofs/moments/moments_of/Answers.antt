@@ -1,4 +1,4 @@
-use Rattle.std.proofs.Common.{◌≡◌, ◌∙◌, subst, sym, arith, List, []}
+use Rattle.std.proofs.Common.{subst, sym, arith, List}
 use Rattle.cronplan.specs.declared.moments.Moment.{Moment}
 use Rattle.cronplan.specs.Private.MomentsUntil.{AreMomentsUntil}
 use Rattle.cronplan.proofs.MomentStarts.{none_until, all_until}

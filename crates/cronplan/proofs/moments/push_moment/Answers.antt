@@ -1,11 +1,11 @@
-use Rattle.std.proofs.Common.{◌≡◌, ◌∙◌, ◌+◌, ◌≤◌, ℕ, refl, ap, sym, subst, arith, get_or, length, List, ◌∷◌, [], ◌++◌}
+use Rattle.std.proofs.Common.{◌∙◌, ◌+◌, refl, ap, sym, subst, arith, get_or, length, List}
 use Rattle.std.proofs.lemmas.List.Sums.{length-filter, count_by-le-length}
 use Rattle.std.proofs.lemmas.Result.{on_ok_weaker}
 use Rattle.std.specs.Ordering.{int_eq}
 use Rattle.cronplan.specs.declared.moments.Moment.{Moment}
 use Rattle.cronplan.specs.declared.start.JobStart.{JobStart}
 use Rattle.cronplan.specs.Counts.{count_of}
-use Rattle.cronplan.specs.Private.MomentsUntil.{AreMomentsUntil, IsNewGroup, moment_of}
+use Rattle.cronplan.specs.Private.MomentsUntil.{AreMomentsUntil, moment_of}
 use Rattle.cronplan.proofs.MomentStarts.{none_start, same_until, next_until, count_at}
 use Rattle.cronplan.proofs.moments.push_moment.Goals as goal
 

@@ -1,4 +1,4 @@
-use Rattle.std.proofs.Common.{arith, ◌≡◌, ◌∙◌, ◌≤ℤ◌, ap, sym, refl, subst, rules, w64, FitsSigned, to_z, of_z, int_lt, ℤ, Bool, List}
+use Rattle.std.proofs.Common.{arith, ◌≡◌, ◌∙◌, ◌≤ℤ◌, ap, sym, subst, rules, w64, FitsSigned, to_z, of_z, ℤ, List}
 use Rattle.std.proofs.lemmas.Fn.{filter_same}
 use Rattle.std.proofs.lemmas.Int.{ints, to_z-of_z}
 use Rattle.cronplan.specs.declared.start.JobStart.{JobStart}

@@ -20,7 +20,7 @@ returns-clause-all c = c.next_runs.ensures.all (narrow_starts_calm c.args.iterat
 pub returns-clause-counted : goal.returns-clause-counted
 returns-clause-counted c = λ held. c.next_runs.ensures.counted held refl
 
--- without want of memory there is no fault
+-- without lack of memory there is no fault
 none_alone : (fault : Option CronError) → IsMemoryAlone false fault → fault ≡ None
 none_alone fault alone = elim alone [ inl none ↦ none | inr (memory, can) ↦ absurd (false≢true can) ]
 

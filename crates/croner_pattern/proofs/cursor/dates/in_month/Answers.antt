@@ -2,15 +2,14 @@ use Rattle.std.proofs.Common.{◌≡◌, pos, sym, ◌∙◌, subst, ◌≤◌, 
 use Rattle.jiff_core.specs.Calendar.{days_in_month}
 use Rattle.jiff_core.proofs.SignedLemmas.{signed_casts}
 use Rattle.croner_base.specs.Civil.{HasYmd}
-use Rattle.croner_pattern.specs.Meaning.{meaning_of}
 use Rattle.croner_pattern.specs.Schedule.{first_weekday}
 use Rattle.croner_pattern.proofs.civil.DateSearch.{mask-day, named_days, days, date_at}
 use Rattle.croner_pattern.proofs.civil.Foremost.{begun, none_named}
 use Rattle.croner_pattern.proofs.cursor.dates.in_month.Goals as goal
 
 pub from_parts_unchecked-requires : goal.from_parts_unchecked-requires
-from_parts_unchecked-requires c =
-    let m = meaning_of c.args.pattern.now in
+from_parts_unchecked-requires g c =
+    let m = g.P.PatternWords.meaning c.args.pattern.now in
     let y = c.args.year in
     let mo = c.args.month in
     let same : to_z w32 y ≡ pos y = omega (arith, signed_casts) in
@@ -18,15 +17,15 @@ from_parts_unchecked-requires c =
     (c.requires.month_in, (c.in_ok-day.ensures.is.low, subst (λ z. c.in_ok-day.day ≤ days_in_month z mo) (sym same) high))
 
 pub returns-in_err-day : goal.returns-in_err-day
-returns-in_err-day c = λ year month.
-    let m = meaning_of c.args.pattern.now in
+returns-in_err-day g c = λ year month.
+    let m = g.P.PatternWords.meaning c.args.pattern.now in
     let y = pos c.args.year in
     let is = named_days m y c.args.month c.named_days.result year month c.named_days.ensures in
     rw c.from_residual.ensures (none_named (days m c.args.direction y c.args.month c.named_days.result is) c.in_err-day.ensures)
 
 pub returns : goal.returns
-returns c = λ year month.
-    let m = meaning_of c.args.pattern.now in
+returns g c = λ year month.
+    let m = g.P.PatternWords.meaning c.args.pattern.now in
     let dir = c.args.direction in
     let y = pos c.args.year in
     let mo = c.args.month in

@@ -2,7 +2,6 @@ use Rattle.std.proofs.Common.{pos, ◌∙◌, rules, FitsSigned, w32}
 use Rattle.std.specs.Int.{IsInRange}
 use Rattle.std.proofs.lemmas.Int.{to_z-of_z}
 use Rattle.croner_base.specs.Civil.{HasYmd}
-use Rattle.croner_pattern.specs.Meaning.{meaning_of}
 use Rattle.croner_pattern.specs.Private.Cursor.{one_on, first_year, last_year, IsMatchingDate}
 use Rattle.croner_pattern.proofs.civil.CivilOrder.{dates, date_start}
 use Rattle.croner_pattern.proofs.civil.DateSearch.{days, years, date_at}
@@ -10,8 +9,8 @@ use Rattle.croner_pattern.proofs.civil.Foremost.{found, ended, skipped, in_low, 
 use Rattle.croner_pattern.proofs.cursor.dates.next_date.Goals as goal
 
 pub returns-in-Some : goal.returns-in-Some
-returns-in-Some c =
-    let m = meaning_of c.args.pattern.now in
+returns-in-Some g c =
+    let m = g.P.PatternWords.meaning c.args.pattern.now in
     let dir = c.args.direction in
     let date = c.args.date in
     let f : FitsSigned w32 c.year.result = search rules in
@@ -27,16 +26,16 @@ returns-in-Some c =
     (date_at m dir _ _ _ _ c.from_parts_unchecked.result c.requires.days near.is ymd))
 
 pub returns-in-Some-in_rest_of_year : goal.returns-in-Some-in_rest_of_year
-returns-in-Some-in_rest_of_year c =
-    let m = meaning_of c.args.pattern.now in
+returns-in-Some-in_rest_of_year g c =
+    let m = g.P.PatternWords.meaning c.args.pattern.now in
     let dir = c.args.direction in
     let date = c.args.date in
     in_middle (dates dir) (IsMatchingDate m) (date_start dir date) c.in-Some-in_rest_of_year.found
     (ended (days m dir date.year date.month c.args.days c.requires.days) (one_on dir (pos date.day)) c.in_default.ensures) c.in-Some-in_rest_of_year.ensures
 
 pub returns : goal.returns
-returns c =
-    let m = meaning_of c.args.pattern.now in
+returns g c =
+    let m = g.P.PatternWords.meaning c.args.pattern.now in
     let dir = c.args.direction in
     let date = c.args.date in
     in_high (dates dir) (IsMatchingDate m) (date_start dir date) c.in_years.result

@@ -1,7 +1,6 @@
-use Rattle.croner_pattern.specs.Meaning.{meaning_of}
 use Rattle.croner_pattern.proofs.civil.TimeSearch.{time_in_day}
 use Rattle.croner_pattern.proofs.cursor.times.in_later_hours.Goals as goal
 
 pub returns : goal.returns
-returns c =
-    time_in_day (meaning_of c.args.pattern.now) c.args.direction _ _ _ _ c.from_parts_unchecked.result c.from_parts_unchecked.ensures c.in_ok-hour.ensures c.in_ok-minute.ensures c.in_ok-second.ensures
+returns g c =
+    time_in_day (g.P.PatternWords.meaning c.args.pattern.now) c.args.direction _ _ _ _ c.from_parts_unchecked.result c.from_parts_unchecked.ensures c.in_ok-hour.ensures c.in_ok-minute.ensures c.in_ok-second.ensures

@@ -1,8 +1,7 @@
 use Rattle.std.proofs.Common.{sym, ◌∙◌}
-use Rattle.croner_pattern.specs.Meaning.{meaning_of}
 use Rattle.croner_pattern.proofs.civil.TimeSearch.{time_in_hour}
 use Rattle.croner_pattern.proofs.cursor.times.in_later_minutes.Goals as goal
 
 pub returns : goal.returns
-returns c =
-    time_in_hour (meaning_of c.args.pattern.now) c.args.direction _ _ _ _ c.from_parts_unchecked.result c.from_parts_unchecked.ensures (sym c.is_plain.ensures ∙ c.if-not-is_plain.false) c.in_ok-minute.ensures c.in_ok-second.ensures
+returns g c =
+    time_in_hour (g.P.PatternWords.meaning c.args.pattern.now) c.args.direction _ _ _ _ c.from_parts_unchecked.result c.from_parts_unchecked.ensures (sym c.is_plain.ensures ∙ c.if-not-is_plain.false) c.in_ok-minute.ensures c.in_ok-second.ensures

@@ -1,9 +1,8 @@
 use Rattle.std.proofs.Common.{sym, ◌∙◌}
-use Rattle.croner_pattern.specs.Meaning.{meaning_of}
 use Rattle.croner_pattern.proofs.civil.TimeSearch.{time_in_minute}
 use Rattle.croner_pattern.proofs.cursor.times.in_minute.Goals as goal
 
 pub returns : goal.returns
-returns c =
-    time_in_minute (meaning_of c.args.pattern.now) c.args.direction _ _ _ _ c.from_parts_unchecked.result c.from_parts_unchecked.ensures (sym c.is_plain.ensures ∙ c.if-not-is_plain.false)
+returns g c =
+    time_in_minute (g.P.PatternWords.meaning c.args.pattern.now) c.args.direction _ _ _ _ c.from_parts_unchecked.result c.from_parts_unchecked.ensures (sym c.is_plain.ensures ∙ c.if-not-is_plain.false)
     (sym c.is_plain-else-not-is_plain.ensures ∙ c.if-not-is_plain-2.false) c.in_ok-second.ensures

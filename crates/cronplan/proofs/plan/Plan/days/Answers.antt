@@ -1,4 +1,4 @@
-use Rattle.std.proofs.Common.{◌≡◌, ◌∙◌, ap, sym, subst, rules, ℤ, List, w64, to_z, of_z, FitsSigned, length}
+use Rattle.std.proofs.Common.{◌≡◌, ◌∙◌, ap, subst, rules, ℤ, List, w64, to_z, of_z, FitsSigned}
 use Rattle.std.proofs.lemmas.Int.{to_z-of_z}
 use Rattle.croner_base.specs.TableZone.{table_zone}
 use Rattle.croner_base.specs.Zone.{Zone}

@@ -1,4 +1,4 @@
-use Rattle.std.proofs.Common.{◌≡◌, ◌∙◌, rules, refl, subst, List}
+use Rattle.std.proofs.Common.{rules, subst, List}
 use Rattle.std.proofs.lemmas.List.Sorted.{answers_always}
 use Rattle.cronplan.specs.declared.start.JobStart.{JobStart}
 use Rattle.cronplan.specs.Moments.{AreMoments}

@@ -1,4 +1,4 @@
-use Rattle.std.proofs.Common.{◌≡◌, ◌≤ℤ◌, sym, subst, ℤ}
+use Rattle.std.proofs.Common.{◌≤ℤ◌, sym, subst, ℤ}
 use Rattle.std.specs.List.{All}
 use Rattle.cronplan.specs.declared.start.JobStart.{JobStart}
 use Rattle.cronplan.proofs.StartOrder.{merged_order, merged_all}

@@ -12,7 +12,7 @@ use Rattle.croner_base.proofs.time.table.of_zone.add_asked.Goals as goal
 none_added : (items none : List (ℤ × ℤ)) → none ≡ [] → items ≡ items ++ none
 none_added items none e = sym (ap (λ l. items ++ l) e ∙ append-nil items)
 
--- one change more behind those that were there
+-- one change more after those that were there
 added_behind : (old items all more : List (ℤ × ℤ)) (change : ℤ × ℤ) → items ≡ old ++ all → more ≡ all ++ change ∷ [] → items ++ change ∷ [] ≡ old ++ more
 added_behind old items all more change h m = ap (λ l. l ++ change ∷ []) h ∙ append_assoc old all (change ∷ []) ∙ ap (λ l. old ++ l) (sym m)
 

@@ -6,7 +6,7 @@ use Rattle.croner_pattern.specs.Private.DayBits.{has_bit}
 use Rattle.croner_pattern.specs.Schedule.{is_named, is_plain, is_near_target, names_last_day, names_last_working_day}
 use Rattle.croner_pattern.specs.Shapes.{day_shape}
 use Rattle.croner_pattern.proofs.days.DayBits.{has-or}
-use Rattle.croner_pattern.proofs.questions.FieldShapes.{HasLikeShape, like_shape, asks_day, marked_named}
+use Rattle.croner_pattern.proofs.questions.FieldShapes.{HasLikeShape, field_shapes, asks_day, marked_named}
 use Rattle.croner_pattern.proofs.pattern.mask.days.days_named.Goals as goal
 
 any-same : (p q : ℕ → Bool) (a n : ℕ) → ((x : ℕ) → a ≤ x → x < a + n → p x ≡ q x) → list_any p (range_with_len a n) ≡ list_any q (range_with_len a n)
@@ -32,17 +32,18 @@ near_is f targets len first day s long h =
     (h (x - 1) (omega arith) ∙ ap (is_marked 128 f) back ∙ marked_named 128 f x (asks_day f.shape x 128 s refl low (omega arith))))
 
 pub returns : goal.returns
-returns c place low =
-    let f = c.args.days.now in
+returns g c place low =
+    let m = g.P.PatternWords.meaning c.args.pattern.now in
+    let f = m.days in
     let len = c.args.length in
     let first = c.args.first in
     let day = place + 1 in
-    let s = like_shape f.shape day_shape c.requires.shape in
+    let s = (field_shapes m c.requires.shapes).days in
     let long = c.requires.length.1 in
-    let plain : has_bit c.marked-2.result place ≡ is_plain f day =
-    c.marked-2.ensures place (omega arith) ∙ marked_named 1 f day (asks_day f.shape day 1 s refl (omega arith) (omega arith)) in
+    let plain : has_bit c.plain_days.result place ≡ is_plain f day =
+    c.plain_days.ensures place (omega arith) ∙ marked_named 1 f day (asks_day f.shape day 1 s refl (omega arith) (omega arith)) in
     let near : has_bit c.nearest_working-nearest.result place ≡ is_near_target f len first day =
-    c.nearest_working-nearest.ensures place low ∙ near_is f c.marked.result len first day s long c.marked.ensures in
-    let two = has-or c.marked-2.result c.named_last.result place ∙ (λ i. plain i || c.named_last.ensures place low i) in
-    has-or (bit_or c.marked-2.result c.named_last.result) c.nearest_working-nearest.result place ∙ (λ i. two i || near i)
+    c.nearest_working-nearest.ensures place low ∙ near_is f c.nearest_days.result len first day s long c.nearest_days.ensures in
+    let two = has-or c.plain_days.result c.named_last.result place ∙ (λ i. plain i || c.named_last.ensures place low i) in
+    has-or (bit_or c.plain_days.result c.named_last.result) c.nearest_working-nearest.result place ∙ (λ i. two i || near i)
     ∙ or_assoc (is_plain f day) (names_last_day f && is_last_day len day) (names_last_working_day f && is_last_working len first day) (is_near_target f len first day)

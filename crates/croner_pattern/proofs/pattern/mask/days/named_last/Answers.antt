@@ -7,7 +7,7 @@ use Rattle.croner_pattern.proofs.days.DayBits.{has-one}
 use Rattle.croner_pattern.proofs.days.DayTable.{last_day_is}
 use Rattle.croner_pattern.proofs.questions.ScheduledAnswers.{last_alone}
 use Rattle.croner_pattern.proofs.pattern.mask.days.named_last.Goals as goal
-use Rattle.croner_pattern.proofs.pattern.mask.days.named_last.Goals.{then-is_feature_enabled, else-is_feature_enabled}
+use Rattle.croner_pattern.proofs.pattern.mask.days.named_last.Goals.{then-has_nearest_day, else-has_nearest_day}
 
 -- the last working day alone is named
 working_named : (last also b working : Bool) → last ≡ true → also ≡ true → working ≡ (((last && not also) && b) || ((last && also) && working))
@@ -20,21 +20,21 @@ bit_is last day place e low high =
     ap (λ n. has_bit (1 * 2 ^ (n - 1) % 2 ^ 32) place) e ∙ has-one (day - 1) place (omega arith) ∙ same
 
 pub returns : goal.returns
-returns c place low =
+returns g c place low =
     let len = c.args.length in
-    let f = c.args.days.now in
+    let f = (g.P.PatternWords.meaning c.args.pattern.now).days in
     let l : has_all f.enabled 64 ≡ true = cc in
-    elim c.if-is_feature_enabled.branch [
-      | then-is_feature_enabled w ↦
+    elim c.if-has_nearest_day.branch [
+      | then-has_nearest_day w ↦
           let also : has_all f.enabled 128 ≡ true = cc in
           let day = w.last_working-last.result in
           let high : day ≤ 31 = omega (arith, w.last_working-last.ensures.bound.1, c.requires.length.1) in
-          bit_is c.if-is_feature_enabled.last day place w.last-is w.last_working-last.ensures.bound.0 high
+          bit_is c.if-has_nearest_day.last day place w.last-is w.last_working-last.ensures.bound.0 high
           ∙ w.last_working-last.ensures.value (place + 1) (omega arith) (omega arith)
           ∙ working_named (has_all f.enabled 64) (has_all f.enabled 128) (is_last_day len (place + 1)) (is_last_working len c.args.first (place + 1)) l also
-      | else-is_feature_enabled w ↦
+      | else-has_nearest_day w ↦
           let also : has_all f.enabled 128 ≡ false = cc in
-          bit_is c.if-is_feature_enabled.last len place w.last-is (omega (arith, c.requires.length.0)) c.requires.length.1
+          bit_is c.if-has_nearest_day.last len place w.last-is (omega (arith, c.requires.length.0)) c.requires.length.1
           ∙ last_day_is len (place + 1) c.requires.length.0 c.requires.length.1 (omega arith) (omega arith)
           ∙ last_alone (has_all f.enabled 64) (has_all f.enabled 128) (is_last_day len (place + 1)) (is_last_working len c.args.first (place + 1)) l also
     ]

@@ -1,4 +1,4 @@
-use Rattle.std.proofs.Common.{◌≡◌, ◌*◌, ◌^◌, ◌%◌, Bool, true, false, ◌&&◌, refl, ◌∙◌}
+use Rattle.std.proofs.Common.{◌≡◌, ◌*◌, ◌^◌, ◌%◌, Bool, true, false, ◌&&◌, bit_and, refl, ap, ◌∙◌}
 use Rattle.croner_pattern.specs.Private.DayBits.{has_bit}
 use Rattle.croner_pattern.proofs.days.DayBits.{has-and, has-nth_week}
 use Rattle.croner_pattern.proofs.pattern.mask.weekdays.nth_marked.Goals as goal
@@ -10,7 +10,8 @@ swapped false true = refl
 swapped false false = refl
 
 pub returns : goal.returns
-returns c place low =
-    has-and c.marked.result (127 * 2 ^ (7 * c.args.before) % 2 ^ 32) place
+returns g c place low =
+    ap (λ n. has_bit (bit_and c.marked.result (127 * 2 ^ (7 * n) % 2 ^ 32)) place) c.from.ensures
+    ∙ has-and c.marked.result (127 * 2 ^ (7 * c.args.before) % 2 ^ 32) place
     ∙ swapped (has_bit c.marked.result place) (has_bit (127 * 2 ^ (7 * c.args.before) % 2 ^ 32) place)
     ∙ (λ i. has-nth_week c.args.before place c.requires.before low i && c.marked.ensures place low i)

@@ -3,7 +3,6 @@ use Rattle.std.proofs.lemmas.Bool.{or_parts}
 use Rattle.croner_base.specs.Field.{has_any, is_marked}
 use Rattle.croner_base.proofs.fields.MarkSets.{has_any-several}
 use Rattle.croner_pattern.specs.Days.{weekday_of}
-use Rattle.croner_pattern.specs.Private.DayBits.{has_bit}
 use Rattle.croner_pattern.proofs.days.DayBits.{has-or, has-none}
 use Rattle.croner_pattern.proofs.days.DayTable.{occurrence_is}
 use Rattle.croner_pattern.proofs.days.JoinedTests.{or_false}
@@ -31,19 +30,19 @@ one_of_five m (suc (suc (suc zero))) h = or_false _
 one_of_five m (suc (suc (suc (suc zero)))) h = refl
 one_of_five m (suc (suc (suc (suc (suc n))))) h = absurd (omega arith)
 
-pub returns-then-low_word-eq0 : goal.returns-then-low_word-eq0
-returns-then-low_word-eq0 c place low =
-    let f = c.args.weekdays.now in
+pub returns-then-not-has_nth_weekdays : goal.returns-then-not-has_nth_weekdays
+returns-then-not-has_nth_weekdays g c place low =
+    let f = (g.P.PatternWords.meaning c.args.pattern.now).days_of_week in
     let w = weekday_of c.args.first (place + 1) in
     let before = ((place + 1) - 1) / 7 in
-    let none : has_any _ 62 ≡ false = sym (c.low_word.ensures w (omega arith)) ∙ ap (λ n. has_bit n w) c.if-low_word-eq0.true ∙ has-none w in
+    let none : has_any _ 62 ≡ false = c.has_nth_weekdays.ensures c.if-not-has_nth_weekdays.true w (omega arith) in
     has-none place
     ∙ sym (none_of _ before (omega arith) none)
     ∙ ap (λ n. is_marked (2 ^ n) f w) (occurrence_is c.args.first (place + 1) c.requires (omega arith) (omega arith))
 
 pub returns : goal.returns
-returns c place low =
-    let f = c.args.weekdays.now in
+returns g c place low =
+    let f = (g.P.PatternWords.meaning c.args.pattern.now).days_of_week in
     let w = weekday_of c.args.first (place + 1) in
     let before = ((place + 1) - 1) / 7 in
     let two = has-or c.nth_marked.result c.nth_marked-2.result place ∙ (λ i. c.nth_marked.ensures place low i || c.nth_marked-2.ensures place low i) in

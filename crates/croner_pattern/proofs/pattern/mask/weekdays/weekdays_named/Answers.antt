@@ -5,7 +5,7 @@ use Rattle.croner_pattern.specs.Schedule.{bit_of_nth, is_named, is_plain}
 use Rattle.croner_pattern.proofs.days.DayBits.{has-or, has-and}
 use Rattle.croner_pattern.proofs.days.DayTable.{last_is}
 use Rattle.croner_pattern.proofs.questions.DayAnswers.{nth_of_day}
-use Rattle.croner_pattern.proofs.questions.FieldShapes.{either_weekday, asks_weekday, marked_named}
+use Rattle.croner_pattern.proofs.questions.FieldShapes.{field_shapes, asks_weekday, marked_named}
 use Rattle.croner_pattern.proofs.pattern.mask.weekdays.weekdays_named.Goals as goal
 
 or_assoc : (a b c : Bool) → ((a || b) || c) ≡ (a || (b || c))
@@ -13,8 +13,9 @@ or_assoc true b c = refl
 or_assoc false b c = refl
 
 pub returns : goal.returns
-returns c place low =
-    let f = c.args.weekdays.now in
+returns g c place low =
+    let m = g.P.PatternWords.meaning c.args.pattern.now in
+    let f = m.days_of_week in
     let len = c.args.length in
     let first = c.args.first in
     let day = place + 1 in
@@ -23,7 +24,7 @@ returns c place low =
     let long = c.requires.length.1 in
     let in_month : place < 31 = omega arith in
     let small : w < 7 = omega arith in
-    let s = either_weekday f.shape c.requires.shape in
+    let s = (field_shapes m c.requires.shapes).weekdays in
     let nth = bit_of_nth (occurrence first day) in
     let plain : has_bit c.marked-2.result place ≡ is_plain f w =
     c.marked-2.ensures place in_month ∙ marked_named 1 f w (asks_weekday f.shape w 1 s refl (omega arith)) in

@@ -1,0 +1,209 @@
+//! A plan, as texts or as a file.
+
+use crate::saved::save;
+use crate::{Named, tell_in};
+use croncheck_command::problem::Problem;
+use croncheck_command::words::Call;
+use croncheck_planner::planner::page::PagePlanner;
+use croncheck_planner::planner::{FileAsked, PlanAsked, Planner};
+use croncheck_reading::files::tell_files;
+use croncheck_reading::form::Form;
+use croncheck_reading::progress::TermsByKind;
+use croncheck_reading::sink::Sink;
+use croncheck_report::shared::Shared;
+use croncheck_runs::clock::NoClock;
+use croner_base::time::CivilDateTime;
+use cronplan_forms::{Naming, Signs};
+use cronplan_page::Line as PageLine;
+use crontab::line::Dialect;
+use jiff::Timestamp;
+use std::alloc::AllocError;
+use std::env::VarError;
+use std::io::{ErrorKind, Write};
+use std::{env, io, str};
+
+/// The status where a file isn't read.
+const UNREAD: u8 = 3;
+
+/// What the calendar of a plan is called, and its page.
+const TITLE: &str = "What cron starts";
+
+/// Plans the jobs of the files: as texts, unless a file is asked for.
+pub fn plan(
+    rt: &HostRuntime,
+    call: &Call<'_>,
+    kinds: &TermsByKind<'_, '_>,
+    sources: Named<'_>,
+) -> Result<u8, Problem> {
+    let asked = plan_asked(rt, call)?;
+    match asked.file {
+        Some(FileAsked::Calendar(lasts)) => {
+            write_calendar(rt, call, kinds, sources, asked, lasts)
+        }
+        Some(FileAsked::Page) => write_page(rt, call, kinds, sources, asked),
+        Some(FileAsked::Json) => write_json(rt, call, kinds, sources, asked),
+        None => {
+            let planner = Planner::new(rt.alloc(), asked);
+            tell_in(rt, kinds, sources, planner).map_err(Problem::Unwritten)
+        }
+    }
+}
+
+// What took the files in a form, with what it told of them, and the status.
+#[derive(Drop)]
+struct Taken<'s, 't, F> {
+    sink: Sink<'s, 't, F, Vec<u8>>,
+    status: u8,
+}
+
+// Takes the files in a form. What it tells goes to standard error, since a file is asked for; it is none where a file of the call isn't read.
+fn take_files<'s, 't, F: Form + Drop>(
+    rt: &HostRuntime,
+    kinds: &TermsByKind<'s, 't>,
+    sources: Named<'_>,
+    form: F,
+) -> Result<Taken<'s, 't, F>, Problem> {
+    let terms = kinds.of(Dialect::User);
+    let mut notes = rt.stderr();
+    let mut sink = Sink::new(terms, form, Vec::new(rt.alloc()));
+    let status = tell_files(sources.machine, kinds, sources.files, &mut sink, &mut notes).map_err(
+        Problem::Unwritten,
+    )?;
+    notes
+        .write_all(sink.out().as_slice())
+        .map_err(Problem::Unwritten)?;
+    if status == UNREAD {
+        return Err(Problem::Unread);
+    }
+    Ok(Taken { sink, status })
+}
+
+// Writes the calendar of the files' jobs. The status is 1 where it hasn't all starts.
+fn write_calendar(
+    rt: &HostRuntime,
+    call: &Call<'_>,
+    kinds: &TermsByKind<'_, '_>,
+    sources: Named<'_>,
+    asked: PlanAsked,
+    lasts: Option<u64>,
+) -> Result<u8, Problem> {
+    let planner = Planner::new(rt.alloc(), asked);
+    let taken = take_files(rt, kinds, sources, planner)?;
+    let now = Timestamp::now(rt).map_err(Problem::Now)?;
+    let Some(stamp) = CivilDateTime::of_wall_second(now.as_second()) else {
+        return Err(Problem::Clock(NoClock::Outside));
+    };
+    let naming = Naming {
+        name: TITLE,
+        stamp,
+        lasts,
+    };
+    let terms = kinds.of(Dialect::User);
+    let Ok(file) = taken.sink.form().calendar(&terms, naming) else {
+        return Err(Problem::OutOfMemory);
+    };
+    write_text(rt, call, file.text.as_str())?;
+    Ok(if file.is_cut {
+        taken.status.max(1)
+    } else {
+        taken.status
+    })
+}
+
+// Writes the page of the files' jobs, with what cron ignores, as it was told.
+fn write_page(
+    rt: &HostRuntime,
+    call: &Call<'_>,
+    kinds: &TermsByKind<'_, '_>,
+    sources: Named<'_>,
+    asked: PlanAsked,
+) -> Result<u8, Problem> {
+    let planner = PagePlanner::new(rt.alloc(), asked);
+    let taken = take_files(rt, kinds, sources, planner)?;
+    let Ok(told) = str::from_utf8(taken.sink.out().as_slice()) else {
+        return Err(Problem::Unwritten(io::Error::from(ErrorKind::InvalidData)));
+    };
+    let Ok(ignored) = lines_in(rt, told) else {
+        return Err(Problem::OutOfMemory);
+    };
+    let terms = kinds.of(Dialect::User);
+    let zone = zone_word(call, terms.shared);
+    let Ok(text) = taken
+        .sink
+        .form()
+        .page(&terms, zone, TITLE, ignored.as_slice())
+    else {
+        return Err(Problem::OutOfMemory);
+    };
+    write_text(rt, call, text.as_str())?;
+    Ok(taken.status)
+}
+
+// The lines of a text that have something, as a page has them.
+fn lines_in<'t>(rt: &HostRuntime, text: &'t str) -> Result<Vec<PageLine<'t>>, AllocError> {
+    let mut lines = Vec::new(rt.alloc());
+    for rest in text.lines() {
+        if !rest.is_empty() {
+            lines.push(PageLine { head: "", rest })?;
+        }
+    }
+    Ok(lines)
+}
+
+// Writes the plan of the files' jobs as JSON.
+fn write_json(
+    rt: &HostRuntime,
+    call: &Call<'_>,
+    kinds: &TermsByKind<'_, '_>,
+    sources: Named<'_>,
+    asked: PlanAsked,
+) -> Result<u8, Problem> {
+    let planner = Planner::new(rt.alloc(), asked);
+    let taken = take_files(rt, kinds, sources, planner)?;
+    let terms = kinds.of(Dialect::User);
+    let zone = zone_word(call, terms.shared);
+    let Ok(text) = taken.sink.form().json(&terms, zone) else {
+        return Err(Problem::OutOfMemory);
+    };
+    write_text(rt, call, text.as_str())?;
+    Ok(taken.status)
+}
+
+// What a zone is called: by its name, or as the call has it.
+fn zone_word<'c>(call: &'c Call<'_>, shared: &'c Shared<'_>) -> &'c str {
+    shared.zone.iana_name().unwrap_or(call.zone)
+}
+
+// Writes the text of a file: to that which the call names, and else to standard output.
+fn write_text(rt: &HostRuntime, call: &Call<'_>, text: &str) -> Result<(), Problem> {
+    match call.output {
+        Some(name) => save(rt, name, text.as_bytes()).map_err(Problem::Unsaved),
+        None => print!(rt; "{text}").map_err(Problem::Unwritten),
+    }
+}
+
+// What is asked of a plan: its picture has blocks where the machine's words are UTF-8.
+fn plan_asked(rt: &HostRuntime, call: &Call<'_>) -> Result<PlanAsked, Problem> {
+    let mut asked = call.plan;
+    if asked.questions.week.is_some() && has_utf8(rt)? {
+        asked.questions.week = Some(Signs::Blocks);
+    }
+    Ok(asked)
+}
+
+// Whether the machine's words are UTF-8, as the first of these variables says that isn't empty.
+fn has_utf8(rt: &HostRuntime) -> Result<bool, Problem> {
+    for name in ["LC_ALL", "LC_CTYPE", "LANG"] {
+        match env::var(rt, name) {
+            Ok(word) if !word.is_empty() => return Ok(names_utf8(word.as_str())),
+            Ok(_) | Err(VarError::NotPresent | VarError::NotUnicode) => {}
+            Err(VarError::OutOfMemory) => return Err(Problem::OutOfMemory),
+        }
+    }
+    Ok(false)
+}
+
+fn names_utf8(locale: &str) -> bool {
+    let code = locale.rsplit('.').next().unwrap_or(locale);
+    code.eq_ignore_ascii_case("UTF-8") || code.eq_ignore_ascii_case("utf8")
+}

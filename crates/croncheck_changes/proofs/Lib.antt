@@ -1,0 +1,5 @@
+mod ExamplesChanges
+mod LevelClock
+mod ListedChanges
+mod Meetings
+mod WatchedYears

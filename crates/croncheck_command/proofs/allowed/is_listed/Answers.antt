@@ -1,6 +1,0 @@
-use Rattle.std.proofs.Common.{◌∙◌}
-use Rattle.croncheck_command.proofs.AllowedNames.{any_of_names}
-use Rattle.croncheck_command.proofs.allowed.is_listed.Goals as goal
-
-pub returns : goal.returns
-returns c = c.any_is.ensures ∙ any_of_names c.args.name.now c.args.names.now

@@ -1,5 +1,0 @@
-use Rattle.croncheck_command.proofs.CountedRuns.{Seen}
-use Rattle.croncheck_command.proofs.often.shortest_of.Given as goal
-
-abbrev pub invariant-loop-run : goal.invariant-loop-run
-invariant-loop-run l = Seen l.runs l.run-index l.before l.shortest

@@ -1,5 +1,0 @@
-use Rattle.std.proofs.Common.{string_bytes, rules}
-use Rattle.croncheck_command.proofs.plan.list.window_end_line.Goals as goal
-
-pub returns : goal.returns
-returns c = (string_bytes c.in_ok-line.line, c.in_ok-line.ensures, search rules)

@@ -1,4 +1,0 @@
-use Rattle.croncheck_command.proofs.told.is_past.Goals as goal
-
-pub returns : goal.returns
-returns c = record { shown = c.to_civil.result; shows = c.to_civil.ensures; none = c.names_none_from.ensures }

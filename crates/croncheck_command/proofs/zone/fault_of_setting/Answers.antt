@@ -1,6 +1,0 @@
-use Rattle.std.proofs.Common.{◌∙◌, ap}
-use Rattle.croncheck_command.specs.Zone.{fault_of_set_zone}
-use Rattle.croncheck_command.proofs.zone.fault_of_setting.Goals as goal
-
-pub returns : goal.returns
-returns c = c.fault_of_set_zone.ensures ∙ ap fault_of_set_zone c.without_colon.ensures

@@ -1,0 +1,4 @@
+mod AskedFiles
+mod ExamplesFitness
+mod ExamplesFolder
+mod ExamplesNames

@@ -1,0 +1,4 @@
+pub mod Fitness
+pub mod Folder
+pub mod Names
+pub mod Root

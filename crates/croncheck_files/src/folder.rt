@@ -1,0 +1,146 @@
+//! What is read of a folder: cron's rules for the names in /etc/cron.d.
+ghost use Rattle.std.specs.Prelude.{◌≡◌, option_map, IfOk, string_bytes};
+ghost use Rattle.std.specs.Path.{path_bytes};
+ghost use Rattle.croncheck_files.specs.Folder.{is_left_out, is_leftover, is_name_byte, is_name_of_cron, is_scripts, is_named_otherwise, is_no_crontab, is_passed_over, sort_of, treatment_of, path_in};
+ghost use Rattle.croncheck_files.specs.Names.{asked_seen};
+
+use crate::names::{Asked, folder_name, is_text};
+use crontab::line::Dialect;
+use std::alloc::{AllocError, Global};
+use std::path::Path;
+
+/// What a file is that a call asks for.
+#[derive(Clone, Copy, Drop)]
+pub enum Sort {
+    /// It is no crontab, but another of cron's files.
+    NoCrontab,
+    /// It is a folder, whose files are read.
+    Folder,
+    /// Its lines are read.
+    File,
+}
+
+/// What becomes of what stands in a folder.
+#[derive(Clone, Copy, Drop)]
+pub enum Treatment {
+    /// Nothing is said of it: its name begins with a dot, or it is a leftover of dpkg or of an editor.
+    Silent,
+    /// It is a folder, which isn't entered.
+    NotEntered,
+    /// It is no crontab, but another of cron's files.
+    NoCrontab,
+    /// Cron passes over it for its name, so that none of its lines is read.
+    PassedOver,
+    /// Its lines are read.
+    Read,
+}
+
+/// What a file is that a call asks for, which may be a folder.
+pub fn sort_of(is_folder: bool, file: &Asked<'_>) -> Sort
+    ensures { result ≡ sort_of is_folder (asked_seen file.now) }
+{
+    if is_no_crontab(file) {
+        Sort::NoCrontab
+    } else if is_folder {
+        Sort::Folder
+    } else {
+        Sort::File
+    }
+}
+
+/// What becomes of a file of this name in a folder, which may be a folder itself.
+pub fn treatment_of(is_folder: bool, file: &Asked<'_>, name: &str) -> Treatment
+    ensures { result ≡ treatment_of is_folder (asked_seen file.now) name.now }
+{
+    if is_left_out(name.as_bytes()) {
+        Treatment::Silent
+    } else if is_folder {
+        Treatment::NotEntered
+    } else if is_no_crontab(file) {
+        Treatment::NoCrontab
+    } else if is_passed_over(file.dialect(), name.as_bytes()) {
+        Treatment::PassedOver
+    } else {
+        Treatment::Read
+    }
+}
+
+// Whether a file is another of cron's than a crontab by its name, of which no option says how it is read.
+fn is_no_crontab(file: &Asked<'_>) -> bool
+    ensures { result ≡ is_no_crontab (asked_seen file.now) }
+{
+    match file.kind {
+        Some(_) => false,
+        None => is_named_otherwise(Path::new(file.name)),
+    }
+}
+
+fn is_named_otherwise(path: Path<'_>) -> bool
+    ensures { result ≡ is_named_otherwise (path_bytes path.entry) }
+{
+    let name = path.file_name();
+    is_text(name, "anacrontab") || is_scripts(name) || is_scripts(folder_name(path))
+}
+
+// Whether a folder of this name has the scripts that run-parts runs.
+fn is_scripts(name: Option<&str>) -> bool
+    ensures { result ≡ is_scripts (option_map (λ name. name.now) name.entry) }
+{
+    is_text(name, "cron.hourly")
+        || is_text(name, "cron.daily")
+        || is_text(name, "cron.weekly")
+        || is_text(name, "cron.monthly")
+        || is_text(name, "cron.yearly")
+}
+
+// Whether nothing is said of a file of this name.
+fn is_left_out(name: &[u8]) -> bool
+    ensures { result ≡ is_left_out name.now }
+{
+    name.starts_with(".".as_bytes()) || is_leftover(name)
+}
+
+// Whether a file of this name is what dpkg or an editor left of another.
+fn is_leftover(name: &[u8]) -> bool
+    ensures { result ≡ is_leftover name.now }
+{
+    name.ends_with("~".as_bytes())
+        || name.ends_with(".dpkg-old".as_bytes())
+        || name.ends_with(".dpkg-dist".as_bytes())
+        || name.ends_with(".dpkg-new".as_bytes())
+}
+
+// Whether cron passes over a file of this name and dialect.
+fn is_passed_over(dialect: Dialect, name: &[u8]) -> bool
+    ensures { result ≡ is_passed_over dialect name.now }
+{
+    match dialect {
+        Dialect::System => !is_name_of_cron(name),
+        Dialect::User | Dialect::Patterns => false,
+    }
+}
+
+fn is_name_of_cron(name: &[u8]) -> bool
+    ensures { result ≡ is_name_of_cron name.now }
+{
+    name.iter().all(|byte| is_name_byte(*byte))
+}
+
+// Whether a byte may stand in the name of a crontab of the system.
+fn is_name_byte(byte: u8) -> bool
+    ensures { result ≡ is_name_byte byte }
+{
+    byte.is_ascii_alphanumeric() || byte == b'_' || byte == b'-'
+}
+
+/// The path of a file in a folder.
+pub fn path_in(alloc: Global, folder: &str, name: &str) -> Result<String, AllocError>
+    ensures { IfOk result (λ path. string_bytes path ≡ path_in folder.now name.now) }
+{
+    let mut path = String::from_str(alloc, folder)?;
+    if !folder.as_bytes().ends_with("/".as_bytes()) {
+        path.push('/')?;
+    }
+    path.push_str(name)?;
+    Ok(path)
+}

@@ -1,0 +1,428 @@
+//! What to write in place of a field that cron doesn't take.
+//!
+//! Of the first part of the field that cron doesn't take, croner's parser says why it refuses it, as data; the words here say of that
+//! what holds for cron too. What another program's line may have been meant as is told first.
+
+use super::reasons::{reason_of, said_by_cron};
+use croncheck_output::front::{COMMAND_BYTES, push_front};
+use croner::parser::{
+    CronParser, Expected, Hint, PatternFault, PatternField, Seconds, Suggestion, Year,
+};
+use crontab::bytes::{Kind, begins_with, cut, rest_of};
+use crontab::line::Fault;
+use std::alloc::{AllocError, Global};
+use std::fmt;
+
+/// Puts why cron refuses a field behind a text: its own words, the part of the list that it doesn't take, what is wrong there, and what to
+/// write. Where nothing of this is known, it is which values the field takes.
+pub(super) fn push_hint(
+    alloc: Global,
+    text: &mut String,
+    fault: Fault,
+    line: &[u8],
+    field: &[u8],
+    part: &[u8],
+) -> Result<(), AllocError> {
+    text.push_str(said_by_cron(fault))?;
+    if let Some(sign) = foreign_sign(field) {
+        return push_sign(text, sign);
+    }
+    if let Some(words) = words_of_another(fault, line, field, part) {
+        return write!(text, ": {words}");
+    }
+    push_part(text, field, part)?;
+    if let Some(found) = fault_in(alloc, fault, part)? {
+        if push_expected(text, &found.expected)? {
+            return Ok(());
+        }
+    }
+    text.push_str(values_of(fault))
+}
+
+// Puts which part of a list is at fault behind a text, where it is one of several.
+fn push_part(text: &mut String, field: &[u8], part: &[u8]) -> Result<(), AllocError> {
+    if part.is_empty() || part.len() == field.len() {
+        return Ok(());
+    }
+    text.push_str(": the list has ")?;
+    push_front(text, part, COMMAND_BYTES)
+}
+
+// Which values a field takes.
+fn values_of(fault: Fault) -> &'static str {
+    match reason_of(fault).strip_prefix(said_by_cron(fault)) {
+        Some(values) => values,
+        None => "",
+    }
+}
+
+// ---- signs that look like others
+
+/// The first character of a field that isn't of ASCII and looks like a blank, a quote or nothing.
+pub(super) fn foreign_sign(field: &[u8]) -> Option<char> {
+    let Ok(text) = std::str::from_utf8(field) else {
+        return None;
+    };
+    text.chars().find(|sign| is_foreign(*sign))
+}
+
+fn is_foreign(sign: char) -> bool {
+    is_unseen(sign) || is_other_blank(sign) || is_curly(sign)
+}
+
+// Nothing is seen of it.
+fn is_unseen(sign: char) -> bool {
+    matches!(
+        sign,
+        '\u{200b}'..='\u{200f}' | '\u{2060}' | '\u{feff}' | '\u{ad}'
+    )
+}
+
+// It looks like a blank.
+fn is_other_blank(sign: char) -> bool {
+    matches!(
+        sign,
+        '\u{a0}' | '\u{1680}' | '\u{2000}'..='\u{200a}'
+            | '\u{2028}'
+            | '\u{2029}'
+            | '\u{202f}'
+            | '\u{205f}'
+            | '\u{3000}'
+    )
+}
+
+// It is a quote of print.
+fn is_curly(sign: char) -> bool {
+    matches!(sign, '\u{2018}'..='\u{201f}' | '\u{ab}' | '\u{bb}')
+}
+
+/// Puts what is said of such a sign behind a text.
+pub(super) fn push_sign(text: &mut String, sign: char) -> Result<(), AllocError> {
+    let code = u32::from(sign);
+    if sign == '\u{feff}' {
+        return text.push_str(
+            ": a byte order mark (U+FEFF) stands here, which is a part of the word: save the file without one",
+        );
+    }
+    let words = if is_curly(sign) {
+        "is a quote of print, which has no meaning here: leave it out"
+    } else if is_other_blank(sign) {
+        "looks like a blank and is none to cron: write a space"
+    } else {
+        "is not seen, and is a part of the word: take it out"
+    };
+    write!(text, ": U+{code:04X} {words}")
+}
+
+// ---- lines of other programs
+
+// What is said of a line that another program takes, or a shell.
+fn words_of_another(fault: Fault, line: &[u8], field: &[u8], part: &[u8]) -> Option<&'static str> {
+    match fault {
+        Fault::Minutes => match words_of_first(line, field) {
+            Some(words) => Some(words),
+            None => words_of_part(line, part),
+        },
+        _ => words_of_part(line, part),
+    }
+}
+
+// Of the first word of a line.
+fn words_of_first(line: &[u8], word: &[u8]) -> Option<&'static str> {
+    if is_one_of(word, &["export", "set", "setenv", "declare"]) {
+        return Some(
+            "this is no shell: a setting is NAME=value alone, and the commands have it: leave out the first word",
+        );
+    }
+    if is_unset_name(line, word) {
+        return Some("a setting has a = behind its name, as MAILTO=root");
+    }
+    words_of_schedule(word)
+}
+
+/// What is said of the first word of a line that is a schedule of AWS, or an interval in words.
+pub(super) fn words_of_schedule(word: &[u8]) -> Option<&'static str> {
+    if word.starts_with(b"cron(") {
+        return Some(
+            "cron(..) is of AWS: write its first five fields without it, * for ?, and leave out the year behind them",
+        );
+    }
+    if word.starts_with(b"rate(") || is_word(word, "every") {
+        return Some(
+            "an interval is a step: write */5 * * * * for each fifth minute, 0 */2 * * * for each second hour",
+        );
+    }
+    None
+}
+
+// Whether a word is a name of a setting, behind which no `=` stands: capitals and underscores, two at least, and no month or weekday.
+fn is_unset_name(line: &[u8], word: &[u8]) -> bool {
+    let (_, content) = cut(line, Kind::Blank);
+    let (_, behind) = cut(content, Kind::Word);
+    let (_, next) = cut(behind, Kind::Blank);
+    3 < word.len() && is_name_of_setting(word) && is_value(next)
+}
+
+// Whether a text may be the value of a setting: it doesn't begin with `=`, nor as a field does.
+fn is_value(text: &[u8]) -> bool {
+    match text {
+        [] => false,
+        [first, ..] => !first.is_ascii_digit() && *first != b'*' && *first != b'=',
+    }
+}
+
+fn is_name_of_setting(word: &[u8]) -> bool {
+    word.iter()
+        .all(|byte| byte.is_ascii_uppercase() || *byte == b'_')
+}
+
+// Of a part of any field.
+fn words_of_part(line: &[u8], part: &[u8]) -> Option<&'static str> {
+    if is_word(part, "?") {
+        return Some(if has_year(line) {
+            "cron has no ? and no field of years: write * for ?, and leave out what stands behind the weekdays"
+        } else {
+            "cron has no ?: write *"
+        });
+    }
+    words_of_hashed(part)
+}
+
+/// What is said of a part that Jenkins takes.
+pub(super) fn words_of_hashed(part: &[u8]) -> Option<&'static str> {
+    if is_hashed(part) {
+        Some(
+            "H is a value that Jenkins picks: write a number of your own, as in 7, or 7-59/15 for H/15",
+        )
+    } else {
+        None
+    }
+}
+
+// Whether a part is `H`, alone or with a range or a step.
+fn is_hashed(part: &[u8]) -> bool {
+    begins_with(part, b'H') && matches!(rest_of(part), [] | [b'/' | b'(', ..])
+}
+
+// Whether the sixth word of a line is a star or a year.
+fn has_year(line: &[u8]) -> bool {
+    let (_, mut rest) = cut(line, Kind::Blank);
+    for _word in 0..5 {
+        let (_, behind) = cut(rest, Kind::Word);
+        let (_, next) = cut(behind, Kind::Blank);
+        rest = next;
+    }
+    let (word, _) = cut(rest, Kind::Word);
+    is_word(word, "*") || is_year(word)
+}
+
+// Whether a word is a number of four digits.
+fn is_year(word: &[u8]) -> bool {
+    word.len() == 4 && word.iter().all(|byte| byte.is_ascii_digit())
+}
+
+fn is_one_of(word: &[u8], names: &[&str]) -> bool {
+    names.iter().any(|name| is_word(word, name))
+}
+
+fn is_word(word: &[u8], name: &str) -> bool {
+    word == name.as_bytes()
+}
+
+// ---- what croner's parser says of a part
+
+// The field of a pattern.
+fn field_of(fault: Fault) -> PatternField {
+    match fault {
+        Fault::Hours => PatternField::Hours,
+        Fault::Days => PatternField::DayOfMonth,
+        Fault::Months => PatternField::Month,
+        Fault::Weekdays => PatternField::Weekday,
+        _ => PatternField::Minutes,
+    }
+}
+
+// Why croner's parser refuses a part of a field, which stands alone in a pattern; nothing where it takes it, or refuses another field.
+fn fault_in(alloc: Global, fault: Fault, part: &[u8]) -> Result<Option<PatternFault>, AllocError> {
+    let Ok(part) = std::str::from_utf8(part) else {
+        return Ok(None);
+    };
+    let pattern = pattern_of(alloc, fault, part)?;
+    let parser = CronParser::builder()
+        .seconds(Seconds::Disallowed)
+        .year(Year::Disallowed)
+        .build();
+    let Ok(found) = parser.explain(alloc, pattern.as_str()) else {
+        return Err(AllocError);
+    };
+    match found {
+        Some(found) if found.field == Some(field_of(fault)) => Ok(Some(found)),
+        _ => Ok(None),
+    }
+}
+
+// A pattern of this part of a field alone.
+fn pattern_of(alloc: Global, fault: Fault, part: &str) -> Result<String, AllocError> {
+    match fault {
+        Fault::Hours => format!(in alloc; "* {part} * * *"),
+        Fault::Days => format!(in alloc; "* * {part} * *"),
+        Fault::Months => format!(in alloc; "* * * {part} *"),
+        Fault::Weekdays => format!(in alloc; "* * * * {part}"),
+        _ => format!(in alloc; "{part} * * * *"),
+    }
+}
+
+// Puts what was expected behind a text, where it says more than which values the field takes, and holds for cron.
+fn push_expected(text: &mut String, expected: &Expected) -> Result<bool, AllocError> {
+    match expected {
+        Expected::RangeToStep { suggestion } => {
+            let stepped = Stepped {
+                suggestion: *suggestion,
+            };
+            write!(text, ": a step stands behind * or a range{stepped}")?;
+        }
+        Expected::Legal { hint, .. } if holds_for_cron(*hint) => {
+            write!(text, ": this sign has no meaning here.{hint}")?;
+        }
+        Expected::Number {
+            hint: Hint::None,
+            ..
+        }
+        | Expected::Legal { .. } => return Ok(false),
+        Expected::Name { .. }
+        | Expected::Number { .. }
+        | Expected::NumberBeside { .. }
+        | Expected::OneSign { .. }
+        | Expected::Step { .. }
+        | Expected::StepAlone { .. }
+        | Expected::StarAlone
+        | Expected::OneStar => write!(text, ": {expected}")?,
+        _ => return Ok(false),
+    }
+    Ok(true)
+}
+
+// Whether a hint of a sign holds for cron, which knows no signs of dates.
+fn holds_for_cron(hint: Hint) -> bool {
+    matches!(
+        hint,
+        Hint::Interval { .. }
+            | Hint::NamesTogether
+            | Hint::TimeOfDay
+            | Hint::Quotes
+            | Hint::Dash
+            | Hint::Midnight
+    )
+}
+
+// What to write in place of a step behind a number; where nothing says the same, an example.
+#[derive(Clone, Copy)]
+struct Stepped {
+    suggestion: Suggestion,
+}
+
+impl fmt::Display for Stepped {
+    fn fmt<W: fmt::Write>(&self, f: &mut fmt::Formatter<W>) -> fmt::Result {
+        match self.suggestion {
+            Suggestion::None => f.write_str(": write */15 or 5-59/15"),
+            suggestion => write!(f, "{suggestion}"),
+        }
+    }
+}
+
+// ---- nicknames
+
+/// What a nickname that is none may have been meant as. Its words say what to write.
+#[derive(Clone, Copy)]
+pub(super) enum Meant {
+    /// A blank stands behind the `@`.
+    NoName,
+    Noon,
+    /// `@every` so many minutes, which divide an hour.
+    Minutes(u32),
+    /// `@every` so many hours, which divide a day.
+    Hours(u32),
+    /// `@every` another length.
+    Interval,
+}
+
+impl fmt::Display for Meant {
+    fn fmt<W: fmt::Write>(&self, f: &mut fmt::Formatter<W>) -> fmt::Result {
+        match self {
+            Meant::NoName => f.write_str("no blank stands behind the @: write @daily"),
+            Meant::Noon => f.write_str("write 0 12 * * *"),
+            Meant::Minutes(minutes) => write!(f, "write */{minutes} * * * *"),
+            Meant::Hours(hours) => write!(f, "write 0 */{hours} * * *"),
+            Meant::Interval => f.write_str(
+                "an interval is a step, as */5 * * * * for each fifth minute, and begins anew with each hour or day",
+            ),
+        }
+    }
+}
+
+/// Puts what is to be written in place of a nickname that cron refuses behind a text, or answers that nothing is known of it.
+pub(super) fn push_nickname_hint(
+    text: &mut String,
+    line: &[u8],
+    name: &[u8],
+) -> Result<bool, AllocError> {
+    let Some(meant) = meant_by(line, name) else {
+        return Ok(false);
+    };
+    match meant {
+        Meant::NoName => write!(text, "bad time specifier: {meant}")?,
+        Meant::Noon => write!(text, "bad time specifier: cron has no @noon: {meant}")?,
+        Meant::Minutes(_) | Meant::Hours(_) | Meant::Interval => {
+            write!(text, "bad time specifier: cron has no @every: {meant}")?
+        }
+    }
+    Ok(true)
+}
+
+/// What the name behind the `@` of a line may have been meant as, if that is known.
+pub(super) fn meant_by(line: &[u8], name: &[u8]) -> Option<Meant> {
+    if name.is_empty() {
+        Some(Meant::NoName)
+    } else if name.eq_ignore_ascii_case(b"every") {
+        Some(interval_of(second_word(line)))
+    } else if name.eq_ignore_ascii_case(b"noon") {
+        Some(Meant::Noon)
+    } else {
+        None
+    }
+}
+
+// The second word of a line.
+fn second_word(line: &[u8]) -> &[u8] {
+    let (_, content) = cut(line, Kind::Blank);
+    let (_, behind) = cut(content, Kind::Word);
+    let (_, rest) = cut(behind, Kind::Blank);
+    let (word, _) = cut(rest, Kind::Word);
+    word
+}
+
+// What `@every` and a length, as `5m`, may have been meant as.
+fn interval_of(length: &[u8]) -> Meant {
+    match length {
+        [digits @ .., b'm'] => match divisor_of(60, digits) {
+            Some(minutes) => Meant::Minutes(minutes),
+            None => Meant::Interval,
+        },
+        [digits @ .., b'h'] => match divisor_of(24, digits) {
+            Some(hours) => Meant::Hours(hours),
+            None => Meant::Interval,
+        },
+        _ => Meant::Interval,
+    }
+}
+
+// The number that these digits write, if it divides another one.
+fn divisor_of(all: u32, digits: &[u8]) -> Option<u32> {
+    let text = std::str::from_utf8(digits).ok()?;
+    let number = text.parse::<u32>().ok()?;
+    if number != 0 && all % number == 0 {
+        Some(number)
+    } else {
+        None
+    }
+}

@@ -1,0 +1,154 @@
+//! What is found of a file as a whole.
+ghost use Rattle.std.specs.Prelude.{◌≡◌, [], ◌∷◌, ◌++◌, codes, IfOk, OnOk};
+ghost use Rattle.croncheck_report.specs.FileSeen.{file_seen};
+ghost use Rattle.croncheck_findings.specs.Findings.{finding_said, findings_said, reason, said_if, said_of_unfit, findings_of_crontab, findings_of_lines, file_name, findings_of_file, last_line};
+
+use super::{Extent, Finding};
+use croncheck_files::fitness::Unfit;
+use croncheck_output::severity::Severity;
+use croncheck_report::file_seen::{FileSeen, many_lines_text};
+use crontab::line::Dialect;
+use std::alloc::{AllocError, Global};
+
+/// What is found of a file of so many lines as a whole: that cron passes over it for its name, a warning; or why cron ignores it, an
+/// error for each reason. Nothing is found of a file of patterns, which cron doesn't read.
+///
+/// The only error is want of memory.
+pub fn findings_of_file(
+    alloc: Global,
+    dialect: Dialect,
+    lines: u64,
+    file: &FileSeen,
+) -> Result<Vec<Finding>, AllocError>
+    ensures { IfOk result (λ found. findings_said found.items ≡ findings_of_file dialect lines (file_seen file.now)) }
+{
+    if file.is_passed_over() {
+        return name_alone(alloc);
+    }
+    findings_of_lines(alloc, dialect, lines, file)
+}
+
+// That cron passes over a file for its name.
+fn name_alone(alloc: Global) -> Result<Vec<Finding>, AllocError>
+    ensures { IfOk result (λ found. findings_said found.items ≡ file_name ∷ []) }
+{
+    let mut found = Vec::new(alloc);
+    found.push(file_name(alloc)?)?;
+    Ok(found)
+}
+
+fn file_name(alloc: Global) -> Result<Finding, AllocError>
+    ensures { IfOk result (λ f. finding_said f ≡ file_name) }
+{
+    let text = String::from_str(
+        alloc,
+        "cron passes over a file of this name, and no line of it is read here: write letters, digits, _ and - alone",
+    )?;
+    Ok(Finding {
+        severity: Severity::Warning,
+        name: "file-name",
+        field: None,
+        extent: Extent { start: 0, end: 0 },
+        text,
+    })
+}
+
+fn findings_of_lines(
+    alloc: Global,
+    dialect: Dialect,
+    lines: u64,
+    file: &FileSeen,
+) -> Result<Vec<Finding>, AllocError>
+    ensures { IfOk result (λ found. findings_said found.items ≡ findings_of_lines dialect lines (file_seen file.now)) }
+{
+    match dialect {
+        Dialect::Patterns => Ok(Vec::new(alloc)),
+        Dialect::User | Dialect::System => findings_of_crontab(alloc, dialect, lines, file),
+    }
+}
+
+fn findings_of_crontab(
+    alloc: Global,
+    dialect: Dialect,
+    lines: u64,
+    file: &FileSeen,
+) -> Result<Vec<Finding>, AllocError>
+    ensures { IfOk result (λ found. findings_said found.items ≡ findings_of_crontab dialect lines (file_seen file.now)) }
+{
+    let mut found = Vec::new(alloc);
+    push_unfit(alloc, &mut found, file.unfit())?;
+    push_if(
+        alloc,
+        &mut found,
+        file.has_refused(),
+        "refused-line",
+        "a line is refused",
+    )?;
+    push_if(
+        alloc,
+        &mut found,
+        file.is_unfed(),
+        "no-newline",
+        "its last line has no line feed",
+    )?;
+    push_if(
+        alloc,
+        &mut found,
+        file.has_many_lines(dialect, lines),
+        "many-lines",
+        many_lines_text(dialect),
+    )?;
+    Ok(found)
+}
+
+// What the file system says of a file, if cron ignores it for that.
+fn push_unfit(
+    alloc: Global,
+    found: &mut Vec<Finding>,
+    unfit: Option<Unfit>,
+) -> Result<(), AllocError>
+    ensures { OnOk result (findings_said found.new.items ≡ findings_said found.old.items ++ said_of_unfit unfit) }
+{
+    if let Some(unfit) = unfit {
+        found.push(reason(alloc, unfit.name(), unfit.text())?)?;
+    }
+    Ok(())
+}
+
+// A reason, if it holds.
+fn push_if(
+    alloc: Global,
+    found: &mut Vec<Finding>,
+    holds: bool,
+    name: &'static str,
+    why: &str,
+) -> Result<(), AllocError>
+    ensures { OnOk result (findings_said found.new.items ≡ findings_said found.old.items ++ said_if holds (reason name.now why.now)) }
+{
+    if holds {
+        found.push(reason(alloc, name, why)?)?;
+    }
+    Ok(())
+}
+
+// A reason for which cron ignores a file as a whole, at no byte of its line.
+fn reason(alloc: Global, name: &'static str, why: &str) -> Result<Finding, AllocError>
+    ensures { IfOk result (λ f. finding_said f ≡ reason name.now why.now) }
+{
+    let mut text = String::from_str(alloc, "cron ignores the whole file: ")?;
+    text.push_str(why)?;
+    Ok(Finding {
+        severity: Severity::Error,
+        name,
+        field: None,
+        extent: Extent { start: 0, end: 0 },
+        text,
+    })
+}
+
+/// Where what is found of a file of so many lines is told: its last line, and line 1 where it has none.
+pub fn last_line(lines: u64) -> u64
+    ensures { result ≡ last_line lines }
+{
+    if lines == 0 { 1 } else { lines }
+}

@@ -1,0 +1,70 @@
+//! Why croner's parser refuses a pattern, and what to write in its place where its own words don't say that.
+
+use super::hints::{Meant, foreign_sign, meant_by, push_sign, words_of_hashed, words_of_schedule};
+use super::reasons::at_fault;
+use croner::parser::PatternFault;
+use crontab::bytes::{Kind, begins_with, cut, rest_of};
+use std::alloc::AllocError;
+
+/// The bytes between which a field stands, and those between which a part of its list does.
+const ENDS_OF_FIELD: &[u8] = b" \t";
+
+const ENDS_OF_PART: &[u8] = b" \t,";
+
+/// Puts why the parser refuses the pattern of a line behind a text, and behind it the hint that a crontab's line would have.
+pub(super) fn push_pattern_reason(
+    text: &mut String,
+    line: &[u8],
+    fault: &PatternFault,
+) -> Result<(), AllocError> {
+    write!(text, "{fault}")?;
+    let (_, pattern) = cut(line, Kind::Blank);
+    let (first, _) = cut(pattern, Kind::Word);
+    if begins_with(first, b'@') {
+        return push_meant(text, meant_by(pattern, rest_of(first)));
+    }
+    if let Some(sign) = foreign_sign(piece_at(pattern, fault.start, ENDS_OF_FIELD)) {
+        text.push_str(" Hint")?;
+        push_sign(text, sign)?;
+        return text.push('.');
+    }
+    match words_of_another(pattern, first, fault.start) {
+        Some(words) => write!(text, " Hint: {words}."),
+        None => Ok(()),
+    }
+}
+
+// Puts what a nickname was meant as behind a text, where the parser's words don't say that.
+fn push_meant(text: &mut String, meant: Option<Meant>) -> Result<(), AllocError> {
+    match meant {
+        Some(Meant::Interval) | None => Ok(()),
+        Some(meant) => write!(text, " Hint: {meant}."),
+    }
+}
+
+// What is said of a pattern with this first word, refused at a place, that another program takes.
+fn words_of_another(pattern: &[u8], first: &[u8], at: usize) -> Option<&'static str> {
+    match words_of_schedule(first) {
+        Some(words) => Some(words),
+        None => words_of_hashed(piece_at(pattern, at, ENDS_OF_PART)),
+    }
+}
+
+// The bytes around a place of a text, between those that end a piece.
+fn piece_at<'p>(text: &'p [u8], at: usize, ends: &[u8]) -> &'p [u8] {
+    let (front, behind) = text.split_at(at.min(text.len()));
+    let before = front
+        .iter()
+        .rev()
+        .take_while(|byte| !ends.contains(*byte))
+        .count();
+    let after = behind
+        .iter()
+        .take_while(|byte| !ends.contains(*byte))
+        .count();
+    at_fault(
+        text,
+        front.len().saturating_sub(before),
+        front.len().saturating_add(after),
+    )
+}

@@ -1,0 +1,8 @@
+mod Annotated
+mod ExamplesAnnotations
+mod ExamplesJson
+mod ExamplesSarif
+mod Objects
+mod SarifLines
+mod Sarifs
+mod TypedPatterns

@@ -1,0 +1,9 @@
+use Rattle.std.proofs.Common.{rules, ◌<◌, length}
+use Rattle.croncheck_forms.specs.Annotations.{WritesLine}
+use Rattle.croncheck_output.proofs.InTurn.{in_turn_next}
+use Rattle.croncheck_forms.proofs.annotator.write_lines.Goals as goal
+
+pub loop-k-preserved : goal.loop-k-preserved
+loop-k-preserved g c =
+    let within : c.loop-k.k < length c.args.found.now = search rules in
+    in_turn_next (WritesLine c.args.style c.args.place.file.now c.args.place.line) _ _ _ c.args.found.now c.loop-k.k c.index-found-k.result _ within c.index-found-k.is c.loop-k.invariant c.in_ok-write_line.ensures

@@ -1,0 +1,5 @@
+mod Dates
+mod DatesAfter
+mod ExamplesZone
+mod Moments
+mod ZoneWords

@@ -1,0 +1,3 @@
+mod CountedRuns
+mod ExamplesOften
+mod OftenTold

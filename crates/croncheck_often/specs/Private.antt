@@ -1,0 +1,2 @@
+-- Counts of starts. Private contracts alone cite these definitions.
+pub mod Often

@@ -1,0 +1,9 @@
+mod ExamplesLook
+mod ExamplesWritten
+mod HarmlessBytes
+pub mod InTurn
+pub mod OkResults
+mod Outputs
+mod ShownBytes
+mod SpacedBytes
+mod WrappedLines

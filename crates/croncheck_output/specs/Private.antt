@@ -1,0 +1,2 @@
+-- Lines word by word. Private contracts alone cite these definitions.
+pub mod Wrapping

@@ -1,0 +1,137 @@
+-- Worked rows of plans: what jobs are called, how much of what was found a list has, and how it ends.
+use Rattle.std.proofs.Common.{◌≡◌, ℕ, ℤ, pos, Bool, List, [], ◌∷◌, true, false, None, Some, refl}
+use Rattle.std.specs.Fmt.{digits}
+use Rattle.std.specs.Prelude.{codes}
+use Rattle.crontab.specs.Line.{Line, never, blank, comment, job, pattern}
+use Rattle.cronplan.specs.declared.start.JobStart.{JobStart}
+use Rattle.croncheck_planner.specs.declared.planner.PlanAsked.{PlanAsked}
+use Rattle.croncheck_runs.specs.declared.runs.Listing.TheVariants as listings
+use Rattle.croncheck_planner.specs.Plan.{first_behind, end_behind, whole_end, end_up_to, starts_within}
+use Rattle.croncheck_planner.specs.PlanList.{over_text, more_text, whose, line_text}
+use Rattle.croncheck_planner.specs.Planner.{label_text, above_at}
+use Rattle.croncheck_output.specs.Escaped.{shown_from}
+use Rattle.croncheck_planner.specs.Titles.{heading, title_of}
+
+-- ---- titles
+
+a_comment : heading comment (codes "  ## nightly \t") ≡ Some (codes "nightly")
+a_comment = refl
+
+an_empty_comment : heading comment (codes "#") ≡ Some []
+an_empty_comment = refl
+
+-- it leaves what stands above it
+what_is_allowed : heading comment (codes "# croncheck: allow gap") ≡ None
+what_is_allowed = refl
+
+a_blank_line : heading blank [] ≡ Some []
+a_blank_line = refl
+
+nothing_above_a_file : above_at 0 (codes "of the file before") ≡ []
+nothing_above_a_file = refl
+
+abbrev of : List ℕ → Line
+of command = job (record { times = never; schedule = codes "0 5 * * *"; user = None; command = command })
+
+below_a_comment : title_of (codes "nightly") (of (codes "/usr/bin/backup --all")) ≡ codes "nightly"
+below_a_comment = refl
+
+by_its_path : title_of [] (of (codes "  /usr/bin/backup --all")) ≡ codes "backup"
+by_its_path = refl
+
+by_its_first_word : title_of [] (of (codes "backup /srv")) ≡ codes "backup"
+by_its_first_word = refl
+
+a_folder : title_of [] (of (codes "/srv/")) ≡ codes "/srv/"
+a_folder = refl
+
+by_its_times : title_of [] (of (codes "  ")) ≡ codes "0 5 * * *"
+by_its_times = refl
+
+-- what a variable is set to may be a password
+by_no_variable : title_of [] (of (codes "PGPASSWORD=x pg_dump")) ≡ codes "0 5 * * *"
+by_no_variable = refl
+
+a_pattern : title_of [] (pattern (codes "0 9 * * MON")) ≡ codes "0 9 * * MON"
+a_pattern = refl
+
+-- a list, with commands or without
+abbrev a_list : Bool → PlanAsked
+a_list has_commands = record { has_commands = has_commands; questions = record { week = None; month = false; quiet = None; busy = None; together = false }; most_a_day = Some 12; file = None }
+
+without_its_command : label_text (a_list false) (codes "a") 5 (codes "nightly") (of (codes "b c")) ≡ codes "  a:5  nightly"
+unfolding digits shown_from lib.Utf8.encode
+without_its_command = refl
+
+with_its_command : label_text (a_list true) (codes "a") 5 (codes "nightly") (of (codes "b c")) ≡ codes "  a:5  nightly  b c"
+unfolding digits shown_from lib.Utf8.encode
+with_its_command = refl
+
+a_command_alone : label_text (a_list true) (codes "a") 5 (codes "b") (of (codes "b")) ≡ codes "  a:5  b"
+unfolding digits shown_from lib.Utf8.encode
+a_command_alone = refl
+
+-- ---- a list
+
+abbrev start_of : ℤ → ℕ → ℕ → JobStart
+start_of second place count = record { second = second; job = place; count = count; wall = second }
+
+-- three starts at two moments
+abbrev starts : List JobStart
+starts = start_of (pos 5) 0 1 ∷ start_of (pos 5) 1 2 ∷ start_of (pos 7) 0 1 ∷ []
+
+of_no_moment : starts_within 0 None starts ≡ 0
+of_no_moment = refl
+
+-- all that start at a second belong to its moment
+of_one_moment : starts_within 1 None starts ≡ 2
+of_one_moment = refl
+
+of_three_moments : starts_within 3 None starts ≡ 3
+of_three_moments = refl
+
+a_line : line_text (codes "  a:1  b" ∷ codes "  a:2  c" ∷ []) (start_of (pos 5) 0 1) ≡ codes "  a:1  b\n"
+a_line = refl
+
+started_twice : line_text (codes "  a:1  b" ∷ codes "  a:2  c" ∷ []) (start_of (pos 5) 1 2) ≡ codes "  a:2  c  2 times\n"
+unfolding digits
+started_twice = refl
+
+of_crontabs : whose true false ≡ codes "these are cron's starts\n"
+of_crontabs = refl
+
+of_patterns : whose false true ≡ codes "these are croner's runs\n"
+of_patterns = refl
+
+-- ---- its span
+
+-- the start isn't in it, and the second up to which starts are asked is
+from_the_next_second : first_behind (pos 5) ≡ pos 6
+from_the_next_second = refl
+
+up_to_a_second : end_up_to (pos 9) (pos 100) ≡ pos 10
+up_to_a_second = refl
+
+up_to_the_window : end_up_to (pos 100) (pos 100) ≡ pos 100
+up_to_the_window = refl
+
+-- a second before the start
+up_to_a_past_second : end_behind (pos 5) (pos 3) ≡ pos 6
+up_to_a_past_second = refl
+
+behind_its_last_second : whole_end (Some (pos 9)) ≡ pos 10
+behind_its_last_second = refl
+
+-- ---- its end
+
+no_job_starts : over_text true ≡ codes "no job starts: no start is left before year 5000\n"
+no_job_starts = refl
+
+no_start_is_left : over_text false ≡ codes "no more: no start is left before year 5000\n"
+no_start_is_left = refl
+
+none_up_to_a_second : more_text (listings.Until (pos 5)) true ≡ codes "no start up to then\n"
+none_up_to_a_second = refl
+
+none_asked : more_text (listings.Count 0) true ≡ []
+none_asked = refl

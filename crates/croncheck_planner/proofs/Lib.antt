@@ -1,0 +1,5 @@
+mod ExamplesPlan
+mod MomentStarts
+mod PageLines
+mod PlanClocks
+mod ToldLines

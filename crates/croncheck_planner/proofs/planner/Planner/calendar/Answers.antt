@@ -1,0 +1,21 @@
+use Rattle.std.proofs.Common.{◌∙◌, List, length, nat_lt, ap}
+use Rattle.cronplan.specs.declared.start.JobStart.{JobStart}
+use Rattle.cronplan_forms.specs.declared.job.Job.{Job}
+use Rattle.croncheck_planner.specs.declared.planner.Planned.{Planned}
+use Rattle.croncheck_planner.specs.PlanAnswers.{jobs_planned, jobs_told}
+use Rattle.croncheck_planner.proofs.planner.Planner.calendar.Goals as goal
+
+pub returns : goal.returns
+returns c =
+    let text = c.in_ok-text.ensures in record {
+      found = c.in_ok-found.found;
+      view = c.view_of-view.result;
+      calendar = text.0;
+      events = text.1;
+      found_is = c.in_ok-found.ensures;
+      is_view = c.view_of-view.ensures.view c.args.self.now.jobs.items
+          (ap (λ (jobs : List Job). jobs_told jobs) c.as_slice-2.ensures.value ∙ c.in_ok-told.ensures ∙ ap (λ (jobs : List Planned). jobs_planned jobs) c.as_slice.ensures.value);
+      is_calendar = text.2;
+      text_is = text.3;
+      cut = ap (λ (starts : List JobStart). nat_lt 2_000 (length starts)) c.as_slice-starts.ensures.value;
+    }

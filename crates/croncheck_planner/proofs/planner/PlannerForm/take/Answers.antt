@@ -1,0 +1,28 @@
+use Rattle.std.proofs.Common.{refl}
+use Rattle.croncheck_reading.specs.Sink.{state_of}
+use Rattle.croncheck_reading.specs.Stand.{line_taken, stand_of}
+use Rattle.croncheck_planner.proofs.ToldLines.{takes_line}
+use Rattle.croncheck_planner.proofs.planner.PlannerForm.take.Goals as goal
+
+pub returns : goal.returns
+returns g c =
+    let s = c.args.terms.now.settings.now in
+    let contents = g.W.Write.contents in
+    takes_line s (state_of contents c.args.self.now c.args.progress.now c.args.output.now) (line_taken c.args.line) c.args.line.entry c.in_ok-outcome.outcome
+    (stand_of c.next_line.new.self) _ c.begin_file.new.self c.plan_line.new.self (state_of contents c.take_heading.new.self c.plan_line.new.progress c.plan_line.new.output)
+    refl c.in_ok-outcome.ensures
+    (record {
+      begun_above = c.begin_file.ensures.above;
+      begun_schedules = c.begin_file.ensures.schedules;
+      begun_jobs = c.begin_file.ensures.jobs;
+      begun_asked = c.begin_file.ensures.asked;
+      here_is = c.next_line.ensures;
+      title_is = c.in_ok-heading.ensures;
+      taken_above = c.in_ok-plan_line.ensures.above;
+      taken_asked = c.in_ok-plan_line.ensures.asked;
+      new_above = c.take_heading.ensures.above;
+      new_schedules = c.take_heading.ensures.schedules;
+      new_jobs = c.take_heading.ensures.jobs;
+      new_asked = c.take_heading.ensures.asked;
+    })
+    (c.in_ok-plan_line.ensures.plans c.in_ok-outcome.ensures)

@@ -1,0 +1,7 @@
+pub mod PagePlans
+pub mod Plan
+pub mod PlanAnswers
+pub mod PlanFiles
+pub mod PlanList
+pub mod Planner
+pub mod Titles

@@ -1,0 +1,56 @@
+-- Plans as files. Source: docs/CRONTAB.md ("A plan").
+use Rattle.std.specs.Prelude.{◌≡◌, ℕ, nat_lt, List, [], ◌∷◌, ◌++◌, length, map, string_bytes}
+use Rattle.cronplan_forms.specs.declared.calendar.Calendar.{Calendar}
+use Rattle.cronplan_forms.specs.declared.calendar.event.Event.{Event}
+use Rattle.cronplan_forms.specs.declared.calendar.of_plan.Naming.{Naming}
+use Rattle.cronplan_forms.specs.declared.view.View.{View}
+use Rattle.cronplan_forms.specs.Calendars.{calendar_text, most_events}
+use Rattle.cronplan_forms.specs.PlanCalendars.{IsPlanCalendar}
+use Rattle.cronplan_json.specs.PlanJson.{IsPlanJson}
+use Rattle.cronplan_page.specs.declared.about.About.{About}
+use Rattle.cronplan_page.specs.declared.markup.Line.{Line}
+use Rattle.cronplan_page.specs.PlanPages.{IsPageText}
+use Rattle.croncheck_planner.specs.declared.plan.Found.{Found}
+use Rattle.croncheck_planner.specs.declared.planner.Planner.{Planner}
+use Rattle.croncheck_planner.specs.declared.planner.calendar.PlanFile.{PlanFile}
+use Rattle.croncheck_planner.specs.declared.planner.page.PagePlanner.{PagePlanner}
+use Rattle.croncheck_report.specs.declared.settings.Settings.{Settings}
+use Rattle.croncheck_planner.specs.PagePlans.{lines_told, warnings_of}
+use Rattle.croncheck_planner.specs.PlanAnswers.{IsViewOf}
+use Rattle.croncheck_planner.specs.Planner.{IsFoundBy}
+
+-- it is the calendar of the plan of a planner's jobs
+pub record IsCalendar (s : Settings) (p : Planner) (n : Naming) (file : PlanFile) : Type 0 where
+  pub found : Found
+  pub view : View
+  pub calendar : Calendar
+  pub events : List Event
+  pub found_is : IsFoundBy s p found
+  pub is_view : IsViewOf s p.jobs.items found view
+  pub is_calendar : IsPlanCalendar view n calendar events
+  pub text_is : string_bytes file.text ≡ calendar_text calendar events
+  pub cut : file.is_cut ≡ nat_lt most_events (length found.plan.starts.items)
+
+-- it is the page of the plan of the jobs of a page's planner, with the warnings of each, and what cron ignores
+pub record IsPage (s : Settings) (p : PagePlanner) (zone title : List ℕ) (ignored : List Line) (text : List ℕ) : Type 0 where
+  pub found : Found
+  pub view : View
+  pub about : About
+  pub found_is : IsFoundBy s p.planner found
+  pub is_view : IsViewOf s p.planner.jobs.items found view
+  pub zone_is : view.zone.now ≡ zone
+  pub title_is : about.title.now ≡ title
+  pub ignored_are : about.ignored.now ≡ ignored
+  pub warnings_are : map (λ w. lines_told w.lines.now) about.warnings.now ≡ warnings_of p.found.items
+  pub is_page : IsPageText view about text
+
+-- it is the plan of a planner's jobs as JSON, and a line feed
+pub record IsJson (s : Settings) (p : Planner) (zone text : List ℕ) : Type 0 where
+  pub found : Found
+  pub view : View
+  pub object : List ℕ
+  pub found_is : IsFoundBy s p found
+  pub is_view : IsViewOf s p.jobs.items found view
+  pub zone_is : view.zone.now ≡ zone
+  pub is_json : IsPlanJson view object
+  pub text_is : text ≡ object ++ 10 ∷ []

@@ -1,0 +1,255 @@
+-- What a planner takes of files, and what it writes. Source: docs/CRONTAB.md ("A plan"), and this crate's documentation of `Planner`.
+use Rattle.std.specs.Prelude.{◌≡◌, ◌==◌, ℕ, Bool, true, false, List, [], ◌∷◌, ◌++◌, codes, map, Option, Some, None, string_bytes, unwrap_or, if◌then◌else◌}
+use Rattle.std.specs.declared.alloc.Global.{Global}
+use Rattle.std.specs.declared.vec.Vec.{Vec}
+use Rattle.std.specs.Str.{bytes_eq}
+use Rattle.croner_base.specs.TableZone.{table_zone}
+use Rattle.croner.specs.declared.job.Cron.{Cron}
+use Rattle.croner.specs.Views.{job_of}
+use Rattle.crontab.specs.declared.content.Outcome.{Outcome}
+use Rattle.crontab.specs.declared.line.Entry.{Entry}
+use Rattle.crontab.specs.Checked.{LineRead, IsEntryOf}
+use Rattle.crontab.specs.Content.{IsOutcome}
+use Rattle.crontab.specs.Entries.{entry_seen}
+use Rattle.crontab.specs.Line.{Line, blank, comment, setting, job, pattern, refused}
+use Rattle.cronplan.specs.declared.listing.Schedule.{Schedule}
+use Rattle.cronplan.specs.declared.listing.Schedule.TheVariants as schedules
+use Rattle.croncheck_planner.specs.declared.plan.Found.{Found}
+use Rattle.croncheck_planner.specs.declared.planner.FileAsked.{FileAsked}
+use Rattle.croncheck_planner.specs.declared.planner.PlanAsked.{PlanAsked}
+use Rattle.croncheck_planner.specs.declared.planner.Planned.{Planned}
+use Rattle.croncheck_planner.specs.declared.planner.Planner.{Planner}
+use Rattle.croncheck_report.specs.declared.report.Report.{Report}
+use Rattle.croncheck_report.specs.declared.settings.Settings.{Settings}
+use Rattle.croncheck_report.specs.declared.shared.Shared.{Shared}
+use Rattle.croncheck_reading.specs.declared.tally.Tally.{Tally}
+use Rattle.croncheck_report.specs.FileSeen.{with_report}
+use Rattle.croncheck_output.specs.Output.{Written}
+use Rattle.cronplan_forms.specs.Questions.{asks_none}
+use Rattle.croncheck_planner.specs.Plan.{job_found, answered_until, IsFound, IsListed}
+use Rattle.croncheck_planner.specs.PlanAnswers.{WritesAnswers}
+use Rattle.croncheck_planner.specs.PlanList.{labels, whose_text, WritesList}
+use Rattle.croncheck_report.specs.Report.{IsReportOfLine}
+use Rattle.croncheck_shown.specs.Reported.{WritesReport}
+use Rattle.croncheck_report.specs.Settings.{start_of, window_end}
+use Rattle.croncheck_output.specs.Front.{front_text}
+use Rattle.croncheck_shown.specs.Shown.{place_text}
+use Rattle.croncheck_output.specs.Escaped.{bytes_shown, spaced}
+use Rattle.croncheck_reading.specs.Sink.{State}
+use Rattle.croncheck_reading.specs.Stand.{Stand, at_line}
+use Rattle.croncheck_warnings.specs.Starred.{is_starred}
+use Rattle.croncheck_reading.specs.Tally.{counted, one_more}
+use Rattle.croncheck_planner.specs.Titles.{heading, title_of}
+use Rattle.croncheck_report.specs.Told.{IsDescription}
+use Rattle.croncheck_warnings.specs.Users.{users_seen, is_unknown}
+
+-- ---- what is shown of a job
+
+-- so many bytes of a title, of a command or a pattern stand in a list at most
+abbrev pub command_bytes : ℕ
+command_bytes = 40
+
+-- the user that a line names, its times as they are written, and its command; of a pattern both are the pattern
+abbrev pub user_text : Line → List ℕ
+user_text blank = []
+user_text comment = []
+user_text (setting is_zone) = []
+user_text (job task) = unwrap_or task.user []
+user_text (pattern text) = []
+user_text (refused fault) = []
+
+abbrev pub times_of : Line → List ℕ
+times_of blank = []
+times_of comment = []
+times_of (setting is_zone) = []
+times_of (job task) = task.schedule
+times_of (pattern text) = text
+times_of (refused fault) = []
+
+abbrev pub command_of : Line → List ℕ
+command_of blank = []
+command_of comment = []
+command_of (setting is_zone) = []
+command_of (job task) = task.command
+command_of (pattern text) = text
+command_of (refused fault) = []
+
+-- the front of a command, behind two spaces, if there is one
+abbrev pub command_front : List ℕ → List ℕ
+command_front [] = []
+command_front (b ∷ bs) = codes "  " ++ front_text command_bytes (b ∷ bs)
+
+-- the same, but where the command is the title: of a pattern it mostly is
+abbrev pub command_behind : List ℕ → List ℕ → List ℕ
+command_behind title command = if bytes_eq command title then [] else command_front command
+
+-- what a list shows of a job: its file, its number there, the front of its title, and of its command where that is asked for
+abbrev pub label_text : PlanAsked → List ℕ → ℕ → List ℕ → Line → List ℕ
+label_text asked file line title is =
+    codes "  " ++ (place_text file line ++ (front_text command_bytes title ++ (if asked.has_commands then command_behind title (command_of is) else [])))
+
+-- what is shown of a job
+pub record JobShown : Type 0 where
+  pub line : ℕ
+  pub file : List ℕ
+  pub title : List ℕ
+  pub user : List ℕ
+  pub times : List ℕ
+  pub words : List ℕ
+  pub command : List ℕ
+  pub label : List ℕ
+
+abbrev pub planned_seen : Planned → JobShown
+planned_seen p = record {
+  line = p.line;
+  file = string_bytes p.file;
+  title = string_bytes p.title;
+  user = string_bytes p.user;
+  times = string_bytes p.times;
+  words = string_bytes p.words;
+  command = p.command.items;
+  label = string_bytes p.label;
+}
+
+-- the same of the job of a line at a place, above which this stands, whose times mean this in words
+abbrev pub job_shown : PlanAsked → List ℕ → ℕ → List ℕ → List ℕ → Line → JobShown
+job_shown asked file line above words is = record {
+  line = line;
+  file = file;
+  title = spaced (title_of above is);
+  user = bytes_shown (user_text is);
+  times = bytes_shown (times_of is);
+  words = words;
+  command = command_of is;
+  label = label_text asked file line (title_of above is) is;
+}
+
+-- ---- the jobs
+
+-- the jobs of a planner in order, and what is shown of each
+pub record Jobs : Type 0 where
+  pub jobs : List Schedule
+  pub shown : List JobShown
+
+abbrev pub jobs_seen : Vec Schedule Global → Vec Planned Global → Jobs
+jobs_seen jobs shown = record { jobs = jobs.items; shown = map planned_seen shown.items }
+
+-- what a planner knows: these, what was read so far, and what was written
+pub record Seen : Type 0 where
+  pub jobs : List Schedule
+  pub shown : List JobShown
+  pub stand : Stand
+  pub written : Written
+
+-- what contracts see of a planner
+abbrev pub seen : Vec Schedule Global → Vec Planned Global → Stand → Written → Seen
+seen jobs shown stand written = record {
+  jobs = jobs.items;
+  shown = map planned_seen shown.items;
+  stand = stand;
+  written = written;
+}
+
+-- with one more line, which has a job
+abbrev pub with_job : Tally → Tally
+with_job t = record t { lines = one_more t.lines; jobs = one_more t.jobs }
+
+-- the job of a line, of whose times the parser makes this: a crontab's, which cron starts, or a pattern
+abbrev pub schedule_of : Line → Cron → Schedule
+schedule_of blank cron = schedules.Pattern cron
+schedule_of comment cron = schedules.Pattern cron
+schedule_of (setting is_zone) cron = schedules.Pattern cron
+schedule_of (job task) cron = schedules.Crontab (record { cron = cron; is_starred = is_starred task.schedule })
+schedule_of (pattern text) cron = schedules.Pattern cron
+schedule_of (refused fault) cron = schedules.Pattern cron
+
+-- one more job, with what is shown of it at a place
+pub record Keeps (s : Settings) (asked : PlanAsked) (above file : List ℕ) (line : ℕ) (is : Line) (cron : Cron) (old new : Jobs) : Type 0 where
+  pub words : List ℕ
+  pub described : IsDescription s.language (job_of cron) words
+  pub jobs : new.jobs ≡ old.jobs ++ schedule_of is cron ∷ []
+  pub shown : new.shown ≡ old.shown ++ job_shown asked file line above words is ∷ []
+
+-- the same of the line that was read last, and nothing was written
+pub record Adds (s : Settings) (asked : PlanAsked) (above : List ℕ) (is : Line) (cron : Cron) (old new : Seen) : Type 0 where
+  pub kept : Keeps s asked above old.stand.file.name old.stand.lines is cron (record { jobs = old.jobs; shown = old.shown }) (record { jobs = new.jobs; shown = new.shown })
+  pub stand : new.stand ≡ record old.stand { tally = with_job old.stand.tally }
+  pub written : new.written ≡ old.written
+
+-- a line without a place in the plan is told as in a report of a line that has its line feed; warnings are not counted
+pub record Passes (s : Settings) (text : List ℕ) (entry : Entry) (old new : Seen) : Type 0 where
+  pub report : Report
+  pub reported : IsReportOfLine true s text entry report
+  pub jobs : new.jobs ≡ old.jobs
+  pub shown : new.shown ≡ old.shown
+  pub stand : new.stand ≡ record old.stand { tally = counted old.stand.tally report; file = with_report report old.stand.file }
+  pub written : WritesReport s.look old.stand.file.name old.stand.lines text report old.written new.written
+
+-- the user of a line is none of those that are known
+abbrev pub is_refused_by_user : Settings → Line → Bool
+is_refused_by_user s blank = false
+is_refused_by_user s comment = false
+is_refused_by_user s (setting is_zone) = false
+is_refused_by_user s (job task) = is_unknown (users_seen s.users) task.user
+is_refused_by_user s (pattern text) = false
+is_refused_by_user s (refused fault) = false
+
+-- what is planned of a line of which the parser makes this: nothing where its user is refused
+abbrev pub job_planned : Settings → Line → Outcome → Option Cron
+job_planned s is found = if is_refused_by_user s is then None else job_found found
+
+-- what the entry of a line with that job leaves
+abbrev pub PlansJob : Settings → PlanAsked → List ℕ → List ℕ → Entry → Option Cron → Seen → Seen → Type 0
+PlansJob s asked above text entry (Some cron) old new = Adds s asked above (entry_seen entry) cron old new
+PlansJob s asked above text entry None old new = Passes s text entry old new
+
+abbrev pub PlansOutcome : Settings → PlanAsked → List ℕ → List ℕ → Entry → Outcome → Seen → Seen → Type 0
+PlansOutcome s asked above text entry found old new = PlansJob s asked above text entry (job_planned s (entry_seen entry) found) old new
+
+-- the title that stands above a line, of which so many were read in its file before: none above the first
+abbrev pub above_at : ℕ → List ℕ → List ℕ
+above_at lines above = if lines == 0 then [] else above
+
+-- the job of a line that has one is added, with what is shown of it, and any other line is told; and the line may give a title to the next
+pub record Plans (s : Settings) (old : State Planner) (y : LineRead) (new : State Planner) : Type 0 where
+  pub entry : Entry
+  pub found : Outcome
+  pub entry_is : IsEntryOf y entry
+  pub read : IsOutcome s.parser y.is found
+  pub planned : PlansOutcome s old.form.asked (above_at old.stand.lines old.form.above.items) y.bytes entry found
+      (seen old.form.schedules old.form.jobs (at_line y.is y.is_fed old.stand) old.written) (seen new.form.schedules new.form.jobs new.stand new.written)
+  pub above : new.form.above.items ≡ unwrap_or (heading y.is y.bytes) (above_at old.stand.lines old.form.above.items)
+  pub asked : new.form.asked ≡ old.form.asked
+
+-- ---- the plan
+
+-- the list of a planner's jobs was written: each of them is in what was found, and it says whose starts these are
+pub record WritesListed (s : Settings) (shared : Shared) (p : Planner) (old new : Written) : Type 0 where
+  pub found : Found
+  pub listed : IsListed (table_zone (start_of s).table.now) (start_of s).second (window_end s) s.listing p.schedules.items found
+  pub written : WritesList s shared (whose_text p.schedules.items) (labels p.jobs.items) found old new
+
+-- what starts of a planner's jobs in what its forms are about: each of them is in it, or named as left out
+abbrev pub IsFoundBy : Settings → Planner → Found → Type 0
+IsFoundBy s p found =
+    IsFound (table_zone (start_of s).table.now) (start_of s).second (answered_until (start_of s).second (window_end s) s.listing) p.asked.most_a_day p.schedules.items found
+
+-- what a planner's jobs answer was written
+pub record WritesAnswered (s : Settings) (shared : Shared) (p : Planner) (old new : Written) : Type 0 where
+  pub found : Found
+  pub found_is : IsFoundBy s p found
+  pub written : WritesAnswers s shared (whose_text p.schedules.items) p.jobs.items found p.asked.questions old new
+
+-- the plan of a planner's jobs was written: as a list where nothing is asked
+abbrev pub WritesPlanAs : Bool → Settings → Shared → Planner → Written → Written → Type 0
+WritesPlanAs true s shared p old new = WritesListed s shared p old new
+WritesPlanAs false s shared p old new = WritesAnswered s shared p old new
+
+-- where a file is asked for, nothing was
+abbrev pub WritesUnlessFile : Option FileAsked → Settings → Shared → Planner → Written → Written → Type 0
+WritesUnlessFile (Some file) s shared p old new = new ≡ old
+WritesUnlessFile None s shared p old new = WritesPlanAs (asks_none p.asked.questions) s shared p old new
+
+-- what is written behind all files
+abbrev pub WritesPlan : Settings → Shared → Planner → Written → Written → Type 0
+WritesPlan s shared p old new = WritesUnlessFile p.asked.file s shared p old new

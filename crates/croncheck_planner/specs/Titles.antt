@@ -1,0 +1,78 @@
+-- What jobs are called in a plan. Source: docs/CRONTAB.md ("A plan").
+use Rattle.std.specs.Prelude.{ℕ, ◌==◌, ◌-◌, Bool, not, List, [], ◌∷◌, length, drop, Option, Some, None, if◌then◌else◌}
+use Rattle.std.specs.List.{list_any, prefix_len, suffix_len}
+use Rattle.crontab.specs.declared.bytes.Kind.TheVariants as kinds
+use Rattle.crontab.specs.Bytes.{front, behind, trimmed}
+use Rattle.crontab.specs.Line.{Line, Task, blank, comment, setting, job, pattern, refused}
+use Rattle.croncheck_report.specs.Allowed.{list_in}
+
+-- ---- the comment above a job
+
+abbrev pub is_hash : ℕ → Bool
+is_hash b = b == 35
+
+abbrev pub without_hashes : List ℕ → List ℕ
+without_hashes text = drop (prefix_len is_hash text) text
+
+-- the text of a comment: without the hashes in front, and the blanks around it
+abbrev pub comment_text : List ℕ → List ℕ
+comment_text line = trimmed (behind kinds.Blank (without_hashes (behind kinds.Blank line)))
+
+-- the title that a comment gives to the next line: one that allows something leaves what stands above it
+abbrev pub heading_unless : Option (List ℕ) → List ℕ → Option (List ℕ)
+heading_unless None line = Some (comment_text line)
+heading_unless (Some list) line = None
+
+abbrev pub heading_of_comment : List ℕ → Option (List ℕ)
+heading_of_comment line = heading_unless (list_in line) line
+
+-- the title that a line gives to the next one: none where it is no comment
+abbrev pub heading : Line → List ℕ → Option (List ℕ)
+heading blank line = Some []
+heading comment line = heading_of_comment line
+heading (setting is_zone) line = Some []
+heading (job task) line = Some []
+heading (pattern text) line = Some []
+heading (refused fault) line = Some []
+
+-- ---- titles
+
+abbrev pub is_no_slash : ℕ → Bool
+is_no_slash b = not (b == 47)
+
+-- a text, or another where there is none
+abbrev pub or_text : List ℕ → List ℕ → List ℕ
+or_text [] other = other
+or_text (b ∷ bs) other = b ∷ bs
+
+-- what stands behind the last slash of a path; the whole where that is nothing
+abbrev pub last_part : List ℕ → List ℕ
+last_part path = or_text (drop (length path - suffix_len is_no_slash path) path) path
+
+abbrev pub is_equals : ℕ → Bool
+is_equals b = b == 61
+
+-- the last part of a word's path; nothing where it may set a variable, as `A=b` does, since that may be a password
+abbrev pub title_of_word : List ℕ → List ℕ
+title_of_word word = if list_any is_equals word then [] else last_part word
+
+-- the same of a command's first word
+abbrev pub title_of_command : List ℕ → List ℕ
+title_of_command command = title_of_word (front kinds.Word (behind kinds.Blank command))
+
+-- the same, or a job's times where that is nothing
+abbrev pub title_of_job : Task → List ℕ
+title_of_job task = or_text (title_of_command task.command) task.schedule
+
+-- the same of the job of a line
+abbrev pub title_of_line : Line → List ℕ
+title_of_line blank = []
+title_of_line comment = []
+title_of_line (setting is_zone) = []
+title_of_line (job task) = title_of_job task
+title_of_line (pattern text) = text
+title_of_line (refused fault) = []
+
+-- the title of the job of a line above which this stands: that, if there is any
+abbrev pub title_of : List ℕ → Line → List ℕ
+title_of above is = or_text above (title_of_line is)

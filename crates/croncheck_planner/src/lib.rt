@@ -1,0 +1,5 @@
+//! The form that makes a plan of all jobs: what starts behind a start, as a list, as answers, as a calendar or a page.
+#![tactic(auto)]
+
+pub mod plan;
+pub mod planner;

@@ -1,0 +1,524 @@
+//! The form of a plan: the jobs of all files, and behind them what starts of them.
+ghost use Rattle.std.specs.Prelude.{◌≡◌, ◌++◌, ℕ, List, [], None, Some, IfOk, IfErr, OnOk, string_bytes, option_map, unwrap_or};
+ghost use Rattle.croner.specs.declared.job.Cron.{Cron as Made};
+ghost use Rattle.croner.specs.Views.{job_of as meaning_of_job};
+ghost use Rattle.crontab.specs.Content.{IsOutcome};
+ghost use Rattle.crontab.specs.Entries.{entry_seen};
+ghost use Rattle.croncheck_output.specs.Output.{Written, written_of};
+ghost use Rattle.croncheck_planner.specs.Planner.{seen, planned_seen, job_shown, schedule_of, label_text, command_behind, user_text, command_of, times_of, above_at, is_refused_by_user, with_job, jobs_seen, Adds, IsFoundBy, Keeps, Passes, PlansOutcome, WritesListed, WritesAnswered, WritesPlan};
+ghost use Rattle.croncheck_output.specs.Escaped.{spaced};
+ghost use Rattle.croncheck_reading.specs.Stand.{stand_of};
+ghost use Rattle.croncheck_report.specs.Told.{IsDescription};
+
+mod calendar;
+mod json;
+pub mod page;
+
+use crate::plan::answers::write_answers;
+use crate::plan::list::{whose_text, write_list};
+use crate::plan::title::{heading_of, title_of};
+use crate::plan::{Found, answered_plan, listed_plan};
+pub use calendar::PlanFile;
+use croncheck_output::escaped::shown;
+use croncheck_output::front::{COMMAND_BYTES, push_front, push_spaced};
+use croncheck_output::output::Output;
+use croncheck_reading::form::Form;
+use croncheck_reading::progress::{Line, Progress, Terms};
+use croncheck_reading::tally::{Tally, one_more};
+use croncheck_report::place::Place;
+use croncheck_report::report::report_of_line;
+use croncheck_report::settings::Settings;
+use croncheck_report::told::description_of;
+use croncheck_shown::reporter::{write_ending, write_report};
+use croncheck_warnings::starred::is_starred;
+use croncheck_warnings::users::is_unknown;
+use croner::Cron;
+use croner::errors::CronError;
+use cronplan::Schedule;
+use cronplan_forms::Questions;
+use crontab::content::{Outcome, outcome_of};
+use crontab::line::Entry;
+use crontab_runs::CrontabJob;
+use std::alloc::{AllocError, Global};
+use std::io;
+use std::io::{ErrorKind, Write};
+
+/// What is asked of a plan.
+#[derive(Clone, Copy, Drop)]
+pub struct PlanAsked {
+    /// Commands are shown beside the titles of their jobs.
+    pub has_commands: bool,
+    /// What it answers in place of its list, if anything is asked.
+    pub questions: Questions,
+    /// The most starts on a day of a job that the answers are about, if there is such a number.
+    pub most_a_day: Option<u64>,
+    /// The file that it is asked for, if any: then nothing is written behind the files.
+    pub file: Option<FileAsked>,
+}
+
+/// A file that a plan is asked for.
+#[derive(Debug, Clone, Copy)]
+pub enum FileAsked {
+    /// A calendar, and how many seconds each of its events lasts, where that is told.
+    Calendar(Option<u64>),
+    /// A page (HTML).
+    Page,
+    /// JSON.
+    Json,
+}
+
+/// What is shown of a job of a plan.
+#[derive(Drop)]
+pub struct Planned {
+    /// The number of its line in its file, from 1.
+    pub line: u64,
+    /// The name of its file, as it is shown.
+    pub file: String,
+    /// Its title, as it is shown.
+    pub title: String,
+    /// The name of its user, as it is shown; empty where the file names none.
+    pub user: String,
+    /// Its times as they are written, as they are shown.
+    pub times: String,
+    /// What its times mean, in words.
+    pub words: String,
+    /// Its command. Of a pattern it is the pattern.
+    pub command: Vec<u8>,
+    // Its place, and the front of its title, and of its command where that is asked for.
+    pub(crate) label: String,
+}
+
+/// Takes the jobs of files, and writes the plan of all of them. What has no time and what is refused is told as in a
+/// report.
+#[derive(Drop)]
+pub struct Planner {
+    schedules: Vec<Schedule>,
+    jobs: Vec<Planned>,
+    // The title that comments give to the next line; empty where they give none.
+    above: Vec<u8>,
+    asked: PlanAsked,
+}
+
+impl Planner {
+    /// It knows no job yet.
+    pub fn new(alloc: Global, asked: PlanAsked) -> Planner
+        ensures jobs { (result.schedules.items ≡ []) × (result.jobs.items ≡ []) }
+        ensures asked { result.asked ≡ asked }
+    {
+        Planner {
+            schedules: Vec::new(alloc),
+            jobs: Vec::new(alloc),
+            above: Vec::new(alloc),
+            asked,
+        }
+    }
+
+    // Forgets the title that stood above the first line of a file, of which so many lines were read.
+    fn begin_file(&mut self, lines: u64)
+        ensures above { self.new.above.items ≡ above_at lines self.old.above.items }
+        ensures schedules { self.new.schedules ≡ self.old.schedules }
+        ensures jobs { self.new.jobs ≡ self.old.jobs }
+        ensures asked { self.new.asked ≡ self.old.asked }
+    {
+        if lines == 0 {
+            self.above.clear();
+        }
+    }
+
+    // Takes the title that a line gives to the next one, where it doesn't leave the one above it.
+    fn take_heading(&mut self, heading: Option<Vec<u8>>)
+        ensures above { self.new.above.items ≡ unwrap_or (option_map (λ text. text.items) heading) self.old.above.items }
+        ensures schedules { self.new.schedules ≡ self.old.schedules }
+        ensures jobs { self.new.jobs ≡ self.old.jobs }
+        ensures asked { self.new.asked ≡ self.old.asked }
+    {
+        if let Some(heading) = heading {
+            self.above = heading;
+        }
+    }
+
+    // Takes the job of the line at a place.
+    fn keep(
+        &mut self,
+        terms: &Terms<'_, '_>,
+        place: Place<'_>,
+        job: Cron,
+        entry: &Entry<'_>,
+    ) -> io::Result<()>
+        ensures keeps { OnOk result (Keeps terms.now.settings.now self.old.asked self.old.above.items place.entry.file.now place.entry.line (entry_seen entry.now) job
+            (jobs_seen self.old.schedules self.old.jobs) (jobs_seen self.new.schedules self.new.jobs)) }
+        ensures above { self.new.above ≡ self.old.above }
+        ensures asked { self.new.asked ≡ self.old.asked }
+    {
+        let above = self.above.as_slice();
+        let planned = planned_of(terms, self.asked, place, above, entry, &job)?;
+        self.schedules.reserve(1)?;
+        self.jobs.reserve(1)?;
+        self.schedules.push_reserved(schedule_of(entry, job));
+        self.jobs.push_reserved(planned);
+        Ok(())
+    }
+
+    // Takes the job of the line that was read last.
+    fn add(
+        &mut self,
+        terms: &Terms<'_, '_>,
+        progress: &mut Progress,
+        job: Cron,
+        entry: &Entry<'_>,
+    ) -> io::Result<()>
+        ensures adds { (written : Written) → OnOk result (Adds terms.now.settings.now self.old.asked self.old.above.items (entry_seen entry.now) job
+            (seen self.old.schedules self.old.jobs (stand_of progress.old) written) (seen self.new.schedules self.new.jobs (stand_of progress.new) written)) }
+        ensures above { self.new.above ≡ self.old.above }
+        ensures asked { self.new.asked ≡ self.old.asked }
+    {
+        self.keep(terms, progress.place(), job, entry)?;
+        progress.tally = with_job(progress.tally);
+        Ok(())
+    }
+
+    // Tells the line that was read last, which has no place in the plan. The parser makes this of it.
+    fn pass<W: Write>(
+        &self,
+        terms: &Terms<'_, '_>,
+        progress: &mut Progress,
+        line: &[u8],
+        entry: Entry<'_>,
+        outcome: Outcome,
+        output: &mut Output<W>,
+    ) -> io::Result<()>
+        ensures { IsOutcome terms.now.settings.now.parser (entry_seen entry.entry) outcome → OnOk result (Passes terms.now.settings.now line.now entry.entry
+            (seen self.now.schedules self.now.jobs (stand_of progress.old) (written_of W.contents output.old))
+            (seen self.now.schedules self.now.jobs (stand_of progress.new) (written_of W.contents output.new))) }
+    {
+        let Ok(report) = report_of_line(
+            terms.alloc,
+            terms.settings,
+            line,
+            entry,
+            outcome,
+            true,
+            None,
+        ) else {
+            return Err(io::Error::from(ErrorKind::OutOfMemory));
+        };
+        progress.tally.count(&report);
+        progress.file.add_report(&report);
+        write_report(terms, progress.place(), line, &report, output)
+    }
+
+    // Plans the line that was read last, or tells it. The parser makes this of it.
+    fn plan_line<W: Write>(
+        &mut self,
+        terms: &Terms<'_, '_>,
+        progress: &mut Progress,
+        line: &[u8],
+        entry: Entry<'_>,
+        outcome: Outcome,
+        output: &mut Output<W>,
+    ) -> io::Result<()>
+        ensures plans { IsOutcome terms.now.settings.now.parser (entry_seen entry.entry) outcome → OnOk result (PlansOutcome terms.now.settings.now self.old.asked self.old.above.items line.now entry.entry outcome
+            (seen self.old.schedules self.old.jobs (stand_of progress.old) (written_of W.contents output.old))
+            (seen self.new.schedules self.new.jobs (stand_of progress.new) (written_of W.contents output.new))) }
+        ensures above { self.new.above ≡ self.old.above }
+        ensures asked { self.new.asked ≡ self.old.asked }
+    {
+        if is_refused_by_user(terms.settings, &entry) {
+            return self.pass(terms, progress, line, entry, outcome, output);
+        }
+        match outcome {
+            Outcome::Job(job) => self.add(terms, progress, job, &entry),
+            Outcome::NoText
+            | Outcome::TimesRefused(_)
+            | Outcome::PatternRefused(_)
+            | Outcome::NotUtf8 => self.pass(terms, progress, line, entry, outcome, output),
+        }
+    }
+}
+
+impl Planner {
+    // Writes the plan, unless a file is asked for: its list, or what it answers.
+    fn end_plan<W: Write>(&self, terms: &Terms<'_, '_>, output: &mut Output<W>) -> io::Result<()>
+        ensures { OnOk result (WritesPlan terms.now.settings.now terms.now.shared.now self.now (written_of W.contents output.old) (written_of W.contents output.new)) }
+    {
+        if self.asked.file.is_some() {
+            return Ok(());
+        }
+        if self.asked.questions.is_none() {
+            return self.end_list(terms, output);
+        }
+        self.end_answers(terms, output)
+    }
+
+    // Writes the list of all starts.
+    fn end_list<W: Write>(&self, terms: &Terms<'_, '_>, output: &mut Output<W>) -> io::Result<()>
+        ensures { OnOk result (WritesListed terms.now.settings.now terms.now.shared.now self.now (written_of W.contents output.old) (written_of W.contents output.new)) }
+    {
+        let Ok(found) = listed_plan(
+            terms.alloc,
+            self.schedules.as_slice(),
+            terms.settings.changes.start,
+            terms.settings.last(),
+            terms.settings.listing,
+        ) else {
+            return Err(io::Error::from(ErrorKind::OutOfMemory));
+        };
+        let whose = whose_text(self.schedules.as_slice());
+        write_list(terms, whose, self.jobs.as_slice(), &found, output)
+    }
+
+    /// What starts of its jobs in what the forms of a plan are about, without those that start too often.
+    ///
+    /// The only error is `OutOfMemory`, as that of `answered_plan`.
+    pub(crate) fn found(&self, terms: &Terms<'_, '_>) -> Result<Found, CronError>
+        ensures { IfOk result (IsFoundBy terms.now.settings.now self.now) }
+    {
+        answered_plan(
+            terms.alloc,
+            self.schedules.as_slice(),
+            terms.settings.changes.start,
+            terms.settings.last(),
+            terms.settings.listing,
+            self.asked.most_a_day,
+        )
+    }
+
+    // Writes what the plan answers.
+    fn end_answers<W: Write>(&self, terms: &Terms<'_, '_>, output: &mut Output<W>) -> io::Result<()>
+        ensures { OnOk result (WritesAnswered terms.now.settings.now terms.now.shared.now self.now (written_of W.contents output.old) (written_of W.contents output.new)) }
+    {
+        let Ok(found) = self.found(terms) else {
+            return Err(io::Error::from(ErrorKind::OutOfMemory));
+        };
+        let whose = whose_text(self.schedules.as_slice());
+        write_answers(
+            terms,
+            whose,
+            self.jobs.as_slice(),
+            &found,
+            self.asked.questions,
+            output,
+        )
+    }
+}
+
+impl Form for Planner {
+    ghost use Rattle.croncheck_planner.specs.Planner.{Plans, seen, WritesPlan};
+    ghost use Rattle.croncheck_shown.specs.Reported.{WritesEnding};
+
+    ghost takes = { λ terms old y new. Plans terms.settings.now old y new };
+
+    ghost ends_file = { λ terms planner stand old new. WritesEnding terms.settings.now stand old new };
+
+    ghost ends = { λ terms planner old new. WritesPlan terms.settings.now terms.shared.now planner old new };
+
+    fn take<W: Write>(
+        &mut self,
+        terms: &Terms<'_, '_>,
+        progress: &mut Progress,
+        line: Line<'_>,
+        output: &mut Output<W>,
+    ) -> io::Result<()> {
+        let Line {
+            text,
+            entry,
+            is_fed,
+        } = line;
+        self.begin_file(progress.lines);
+        progress.next_line(&entry, is_fed);
+        let heading = heading_of(terms.alloc, &entry, text)?;
+        let outcome = outcome_of(terms.alloc, terms.settings.parser, &entry)?;
+        self.plan_line(terms, progress, text, entry, outcome, output)?;
+        self.take_heading(heading);
+        Ok(())
+    }
+
+    fn end_file<W: Write>(
+        &self,
+        terms: &Terms<'_, '_>,
+        progress: &Progress,
+        output: &mut Output<W>,
+    ) -> io::Result<()> {
+        write_ending(terms, progress, output)
+    }
+
+    fn end<W: Write>(&self, terms: &Terms<'_, '_>, output: &mut Output<W>) -> io::Result<()> {
+        self.end_plan(terms, output)
+    }
+}
+
+// Whether the user of an entry is none of those that are known.
+fn is_refused_by_user(settings: &Settings<'_>, entry: &Entry<'_>) -> bool
+    ensures { result ≡ is_refused_by_user settings.now (entry_seen entry.now) }
+{
+    match entry {
+        Entry::Job(job) => is_unknown(settings.users, job.user),
+        Entry::Blank
+        | Entry::Comment
+        | Entry::Setting { .. }
+        | Entry::Pattern(_)
+        | Entry::Refused { .. } => false,
+    }
+}
+
+// With one more line, which has a job.
+fn with_job(tally: Tally) -> Tally
+    ensures { result ≡ with_job tally }
+{
+    Tally {
+        lines: one_more(tally.lines),
+        jobs: one_more(tally.jobs),
+        refused: tally.refused,
+        warned: tally.warned,
+        ignored: tally.ignored,
+    }
+}
+
+// The job of an entry, of whose times the parser makes this: a crontab's, or a pattern.
+fn schedule_of(entry: &Entry<'_>, cron: Cron) -> Schedule
+    ensures { result ≡ schedule_of (entry_seen entry.now) cron }
+{
+    match entry {
+        Entry::Job(job) => {
+            let is_starred = is_starred(job.schedule);
+            Schedule::Crontab(CrontabJob { cron, is_starred })
+        }
+        Entry::Blank
+        | Entry::Comment
+        | Entry::Setting { .. }
+        | Entry::Pattern(_)
+        | Entry::Refused { .. } => Schedule::Pattern(cron),
+    }
+}
+
+// ---- what is shown of a job
+
+// What is shown of the job of an entry at a place, of whose times the parser makes this, above which this title stands, if there is any.
+fn planned_of(
+    terms: &Terms<'_, '_>,
+    asked: PlanAsked,
+    place: Place<'_>,
+    above: &[u8],
+    entry: &Entry<'_>,
+    job: &Cron,
+) -> io::Result<Planned>
+    ensures { IfOk result (λ planned. (words : List ℕ) × IsDescription terms.now.settings.now.language (meaning_of_job job.now) words
+        × (planned_seen planned ≡ job_shown asked place.entry.file.now place.entry.line above.now words (entry_seen entry.now))) }
+{
+    let Ok(words) = description_of(terms.alloc, job, terms.settings.language) else {
+        return Err(io::Error::from(ErrorKind::OutOfMemory));
+    };
+    let planned = planned_in(terms.alloc, asked, place, above, words, entry)?;
+    Ok(planned)
+}
+
+// The same, with what its times mean.
+fn planned_in(
+    alloc: Global,
+    asked: PlanAsked,
+    place: Place<'_>,
+    above: &[u8],
+    words: String,
+    entry: &Entry<'_>,
+) -> Result<Planned, AllocError>
+    ensures { IfOk result (λ planned. planned_seen planned ≡ job_shown asked place.entry.file.now place.entry.line above.now (string_bytes words) (entry_seen entry.now)) }
+{
+    let title = title_of(above, entry);
+    let label = label_of(alloc, asked, place, title, entry)?;
+    let file = String::from_str(alloc, place.file)?;
+    let title = spaced_text(alloc, title)?;
+    let user = shown(alloc, user_of(entry))?;
+    let times = shown(alloc, times_of(entry))?;
+    let command = copy_of(alloc, command_of(entry))?;
+    let line = place.line;
+    Ok(Planned {
+        line,
+        file,
+        title,
+        user,
+        times,
+        words,
+        command,
+        label,
+    })
+}
+
+// What a list shows of a job: its place, the front of its title, and of its command where that is asked for.
+fn label_of(
+    alloc: Global,
+    asked: PlanAsked,
+    place: Place<'_>,
+    title: &[u8],
+    entry: &Entry<'_>,
+) -> Result<String, AllocError>
+    ensures { IfOk result (λ label. string_bytes label ≡ label_text asked place.entry.file.now place.entry.line title.now (entry_seen entry.now)) }
+{
+    let (file, line) = (place.file, place.line);
+    let mut label = format!(in alloc; "  {file}:{line}  ")?;
+    push_front(&mut label, title, COMMAND_BYTES)?;
+    if asked.has_commands {
+        push_command(&mut label, title, command_of(entry))?;
+    }
+    Ok(label)
+}
+
+// Puts the front of a command behind its title, if there is one, and it isn't the title.
+fn push_command(text: &mut String, title: &[u8], command: &[u8]) -> Result<(), AllocError>
+    ensures { OnOk result (string_bytes text.new ≡ string_bytes text.old ++ command_behind title.now command.now) }
+{
+    if command.is_empty() || command == title {
+        return Ok(());
+    }
+    text.push_str("  ")?;
+    push_front(text, command, COMMAND_BYTES)
+}
+
+fn user_of<'e>(entry: &Entry<'e>) -> &'e [u8]
+    ensures { result.now ≡ user_text (entry_seen entry.now) }
+{
+    match entry {
+        Entry::Job(job) => job.user.unwrap_or(&[]),
+        Entry::Blank
+        | Entry::Comment
+        | Entry::Setting { .. }
+        | Entry::Pattern(_)
+        | Entry::Refused { .. } => &[],
+    }
+}
+
+fn times_of<'e>(entry: &Entry<'e>) -> &'e [u8]
+    ensures { result.now ≡ times_of (entry_seen entry.now) }
+{
+    match entry {
+        Entry::Job(job) => job.schedule,
+        Entry::Pattern(pattern) => pattern,
+        Entry::Blank | Entry::Comment | Entry::Setting { .. } | Entry::Refused { .. } => &[],
+    }
+}
+
+fn command_of<'e>(entry: &Entry<'e>) -> &'e [u8]
+    ensures { result.now ≡ command_of (entry_seen entry.now) }
+{
+    match entry {
+        Entry::Job(job) => job.command,
+        Entry::Pattern(pattern) => pattern,
+        Entry::Blank | Entry::Comment | Entry::Setting { .. } | Entry::Refused { .. } => &[],
+    }
+}
+
+// Bytes as they are shown, a tab as a space.
+fn spaced_text(alloc: Global, bytes: &[u8]) -> Result<String, AllocError>
+    ensures { IfOk result (λ text. string_bytes text ≡ spaced bytes.now) }
+{
+    let mut text = String::new(alloc);
+    push_spaced(&mut text, bytes)?;
+    Ok(text)
+}
+
+fn copy_of(alloc: Global, bytes: &[u8]) -> Result<Vec<u8>, AllocError>
+    ensures { IfOk result (λ copy. copy.items ≡ bytes.now) }
+{
+    let mut copy = Vec::new(alloc);
+    copy.extend_from_slice(bytes)?;
+    Ok(copy)
+}

@@ -1,0 +1,39 @@
+//! The plan of a planner's jobs as a calendar.
+ghost use Rattle.std.specs.Prelude.{IfOk};
+ghost use Rattle.croncheck_planner.specs.PlanFiles.{IsCalendar};
+
+use super::Planner;
+use crate::plan::answers::{jobs_of, view_of};
+use croncheck_reading::progress::Terms;
+use croner::errors::CronError;
+use cronplan_forms::{MOST_EVENTS, Naming, plan_calendar};
+
+/// A plan as a file.
+#[derive(Drop)]
+pub struct PlanFile {
+    pub text: String,
+    /// It has fewer events than the plan has starts.
+    pub is_cut: bool,
+}
+
+impl Planner {
+    /// The calendar of the plan: an event for each start of its jobs, at most `MOST_EVENTS`, without the jobs that start too often.
+    ///
+    /// The only error is `OutOfMemory`, as that of `answered_plan`.
+    pub fn calendar<'p>(
+        &'p self,
+        terms: &'p Terms<'p, 'p>,
+        naming: Naming<'_>,
+    ) -> Result<PlanFile, CronError>
+        ensures { IfOk result (IsCalendar terms.now.settings.now self.now naming.entry) }
+    {
+        let found = self.found(terms)?;
+        let told = jobs_of(terms.alloc, self.jobs.as_slice())?;
+        let zone = terms.shared.zone.iana_name().unwrap_or("");
+        let view = view_of(terms, zone, &found, told.as_slice());
+        let text = plan_calendar(terms.alloc, view, naming)?;
+        let starts = found.plan.starts.as_slice();
+        let is_cut = starts.len() > MOST_EVENTS;
+        Ok(PlanFile { text, is_cut })
+    }
+}

@@ -1,0 +1,29 @@
+//! The plan of a planner's jobs as JSON.
+ghost use Rattle.std.specs.Prelude.{IfOk, string_bytes};
+ghost use Rattle.croncheck_planner.specs.PlanFiles.{IsJson};
+
+use super::Planner;
+use crate::plan::answers::{jobs_of, view_of};
+use croncheck_reading::progress::Terms;
+use croner::errors::CronError;
+use cronplan_json::plan_json;
+
+impl Planner {
+    /// The plan as JSON, in a zone of this name: a line with the object that `cronplan_json::plan_json` makes.
+    ///
+    /// The only error is `OutOfMemory`, as that of `answered_plan`.
+    pub fn json<'p>(
+        &'p self,
+        terms: &'p Terms<'p, 'p>,
+        zone: &'p str,
+    ) -> Result<String, CronError>
+        ensures { IfOk result (λ text. IsJson terms.now.settings.now self.now zone.now (string_bytes text)) }
+    {
+        let found = self.found(terms)?;
+        let told = jobs_of(terms.alloc, self.jobs.as_slice())?;
+        let view = view_of(terms, zone, &found, told.as_slice());
+        let mut text = plan_json(terms.alloc, view)?;
+        text.push('\n')?;
+        Ok(text)
+    }
+}

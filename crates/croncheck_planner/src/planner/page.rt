@@ -1,0 +1,346 @@
+//! The plan of files as a page.
+ghost use Rattle.std.specs.Prelude.{◌≡◌, ◌++◌, [], map, IfOk, OnOk, string_bytes};
+ghost use Rattle.crontab.specs.Entries.{entry_seen};
+ghost use Rattle.croncheck_output.specs.Output.{written_of};
+ghost use Rattle.croncheck_planner.specs.PagePlans.{brief_of, is_at_reboot, is_grave, is_told_at_reboot, is_warning, ignored_line, ignored_text, KeepsIf, line_told, lines_told, reboot_line, TellsLine, warning_told, warnings_in, warnings_of};
+ghost use Rattle.croncheck_planner.specs.PlanFiles.{IsPage};
+ghost use Rattle.croncheck_planner.specs.Planner.{job_planned, jobs_seen};
+ghost use Rattle.croncheck_shown.specs.Shown.{place_text};
+
+use super::{PlanAsked, Planner, is_refused_by_user};
+use crate::plan::answers::{jobs_of, view_of};
+use crate::plan::title::heading_of;
+use croncheck_findings::findings::{Finding, findings_of};
+use croncheck_output::output::Output;
+use croncheck_output::severity::Severity;
+use croncheck_reading::form::Form;
+use croncheck_reading::progress::{Line, Progress, Terms};
+use croncheck_reading::tally::one_more;
+use croncheck_report::place::Place;
+use croncheck_report::report::Report;
+use croncheck_report::settings::Settings;
+use croncheck_report::told::Told;
+use croncheck_runs::runs::Listing;
+use croncheck_shown::reporter::write_ending;
+use croner::errors::CronError;
+use cronplan_page::{About, Line as PageLine, Warnings, page_of};
+use crontab::content::{Outcome, outcome_of};
+use crontab::line::Entry;
+use std::alloc::{AllocError, Global};
+use std::io;
+use std::io::Write;
+
+/// Takes the jobs of files for a page, with what is found of the line of each. Of a line without a job in the plan it writes what is wrong, by
+/// its place: never more of the line than the bytes at fault.
+#[derive(Drop)]
+pub struct PagePlanner {
+    planner: Planner,
+    // What is found of the line of each job.
+    found: Vec<Vec<Finding>>,
+}
+
+impl PagePlanner {
+    /// It knows no job yet.
+    pub fn new(alloc: Global, asked: PlanAsked) -> PagePlanner
+        ensures jobs { (result.planner.schedules.items ≡ []) × (result.planner.jobs.items ≡ []) }
+        ensures found { result.found.items ≡ [] }
+        ensures asked { result.planner.asked ≡ asked }
+    {
+        PagePlanner {
+            planner: Planner::new(alloc, asked),
+            found: Vec::new(alloc),
+        }
+    }
+
+    /// The page of the plan in a zone of this name, without the jobs that start too often, but for their names and counts: as `cronplan_page::page_of` has it, with the
+    /// warnings of each job. These texts are told of what cron ignores.
+    ///
+    /// The only error is `OutOfMemory`, as that of `answered_plan`.
+    pub fn page<'p>(
+        &'p self,
+        terms: &'p Terms<'p, 'p>,
+        zone: &'p str,
+        title: &'p str,
+        ignored: &'p [PageLine<'p>],
+    ) -> Result<String, CronError>
+        ensures { IfOk result (λ text. IsPage terms.now.settings.now self.now zone.now title.now ignored.now (string_bytes text)) }
+    {
+        let planner = &self.planner;
+        let found = planner.found(terms)?;
+        let told = jobs_of(terms.alloc, planner.jobs.as_slice())?;
+        let lines = lines_of(terms.alloc, self.found.as_slice())?;
+        let warned = warnings_of(terms.alloc, lines.as_slice())?;
+        let view = view_of(terms, zone, &found, told.as_slice());
+        let warnings = warned.as_slice();
+        let about = About {
+            title,
+            ignored,
+            warnings,
+        };
+        let text = page_of(terms.alloc, view, about)?;
+        Ok(text)
+    }
+
+    // Takes the job of a line at a place, of whose times the parser makes this, if it has one that is planned: whether it has.
+    fn take_job(
+        &mut self,
+        terms: &Terms<'_, '_>,
+        place: Place<'_>,
+        entry: &Entry<'_>,
+        outcome: Outcome,
+    ) -> io::Result<bool>
+        ensures kept { IfOk result (KeepsIf terms.now.settings.now self.old.planner.asked self.old.planner.above.items place.entry.file.now place.entry.line (entry_seen entry.now)
+            (job_planned terms.now.settings.now (entry_seen entry.now) outcome) (jobs_seen self.old.planner.schedules self.old.planner.jobs) (jobs_seen self.new.planner.schedules self.new.planner.jobs)) }
+        ensures above { self.new.planner.above ≡ self.old.planner.above }
+        ensures asked { self.new.planner.asked ≡ self.old.planner.asked }
+        ensures found { self.new.found ≡ self.old.found }
+    {
+        if is_refused_by_user(terms.settings, entry) {
+            return Ok(false);
+        }
+        match outcome {
+            Outcome::Job(job) => {
+                self.planner.keep(terms, place, job, entry)?;
+                Ok(true)
+            }
+            Outcome::NoText
+            | Outcome::TimesRefused(_)
+            | Outcome::PatternRefused(_)
+            | Outcome::NotUtf8 => Ok(false),
+        }
+    }
+
+    // Keeps what was found of a line whose job is planned, and writes it of any other.
+    fn tell<W: Write>(
+        &mut self,
+        terms: &Terms<'_, '_>,
+        place: Place<'_>,
+        is_planned: bool,
+        report: &Report<'_, '_>,
+        found: Vec<Finding>,
+        output: &mut Output<W>,
+    ) -> io::Result<()>
+        ensures told { OnOk result (TellsLine place.entry.file.now place.entry.line is_planned report.now found self.old.found.items self.new.found.items
+            (written_of W.contents output.old) (written_of W.contents output.new)) }
+        ensures planner { self.new.planner ≡ self.old.planner }
+    {
+        if is_planned {
+            self.found.push(found)?;
+            return Ok(());
+        }
+        let text = ignored_text(terms.alloc, place, report, found.as_slice())?;
+        output.write_apart(text.as_str())
+    }
+}
+
+impl Form for PagePlanner {
+    ghost use Rattle.std.specs.Prelude.{◌≡◌};
+    ghost use Rattle.croncheck_planner.specs.PagePlans.{PlansLine};
+    ghost use Rattle.croncheck_shown.specs.Reported.{WritesEnding};
+
+    ghost takes = { λ terms old y new. PlansLine terms.settings.now old y new };
+
+    ghost ends_file = { λ terms planner stand old new. WritesEnding terms.settings.now stand old new };
+
+    ghost ends = { λ terms planner old new. new ≡ old };
+
+    fn take<W: Write>(
+        &mut self,
+        terms: &Terms<'_, '_>,
+        progress: &mut Progress,
+        line: Line<'_>,
+        output: &mut Output<W>,
+    ) -> io::Result<()> {
+        let Line {
+            text,
+            entry,
+            is_fed,
+        } = line;
+        self.planner.begin_file(progress.lines);
+        let heading = heading_of(terms.alloc, &entry, text)?;
+        let outcome = outcome_of(terms.alloc, terms.settings.parser, &entry)?;
+        let next = Place {
+            file: progress.file.name(),
+            line: one_more(progress.lines),
+        };
+        let is_planned = self.take_job(terms, next, &entry, outcome)?;
+        self.planner.take_heading(heading);
+        let settings = brief_of(terms.settings);
+        let brief = Terms::new(terms.alloc, &settings, terms.shared);
+        let line = Line {
+            text,
+            entry,
+            is_fed,
+        };
+        let report = progress.report(&brief, line)?;
+        let found = findings_of(terms.alloc, text, &report)?;
+        self.tell(terms, progress.place(), is_planned, &report, found, output)
+    }
+
+    fn end_file<W: Write>(
+        &self,
+        terms: &Terms<'_, '_>,
+        progress: &Progress,
+        output: &mut Output<W>,
+    ) -> io::Result<()> {
+        write_ending(terms, progress, output)
+    }
+
+    fn end<W: Write>(&self, _terms: &Terms<'_, '_>, _output: &mut Output<W>) -> io::Result<()> {
+        Ok(())
+    }
+}
+
+// The same, with one run of a job alone: nothing is told of its runs.
+fn brief_of<'t>(settings: &Settings<'t>) -> Settings<'t>
+    ensures { result ≡ brief_of settings.now }
+{
+    Settings {
+        listing: Listing::Count(1),
+        previous: None,
+        tells_often: false,
+        ..*settings
+    }
+}
+
+// ---- what cron ignores
+
+// What is told of a line without a job in the plan: a line of text for each thing that is wrong, and for a job that starts with the machine.
+fn ignored_text(
+    alloc: Global,
+    place: Place<'_>,
+    report: &Report<'_, '_>,
+    found: &[Finding],
+) -> Result<String, AllocError>
+    ensures { IfOk result (λ text. string_bytes text ≡ ignored_text place.entry.file.now place.entry.line report.now found.now) }
+{
+    let mut text = String::new(alloc);
+    for finding in found {
+        push_ignored(&mut text, place, finding)?;
+    }
+    if is_at_reboot(report) {
+        push_reboot(&mut text, place)?;
+    }
+    Ok(text)
+}
+
+#[tactic(auto, unfolding(crate::specs::PagePlans::reboot_line))]
+fn push_reboot(text: &mut String, place: Place<'_>) -> Result<(), AllocError>
+    ensures { OnOk result (string_bytes text.new ≡ string_bytes text.old ++ reboot_line place.entry.file.now place.entry.line) }
+{
+    push_place(text, place)?;
+    text.push_str("starts as the machine does: it has no time in a plan\n")
+}
+
+// Puts a thing that is wrong behind a text.
+fn push_ignored(text: &mut String, place: Place<'_>, finding: &Finding) -> Result<(), AllocError>
+    ensures { OnOk result (string_bytes text.new ≡ string_bytes text.old ++ ignored_line place.entry.file.now place.entry.line finding.now) }
+{
+    if !is_grave(finding.severity) {
+        return Ok(());
+    }
+    push_place(text, place)?;
+    text.push_str(finding.text.as_str())?;
+    text.push_str("\n")
+}
+
+fn push_place(text: &mut String, place: Place<'_>) -> Result<(), AllocError>
+    ensures { OnOk result (string_bytes text.new ≡ string_bytes text.old ++ place_text place.entry.file.now place.entry.line) }
+{
+    let (file, line) = (place.file, place.line);
+    write!(text, "{file}:{line}  ")
+}
+
+// Whether cron makes something else of a line than its writer may think.
+fn is_grave(severity: Severity) -> bool
+    ensures { result ≡ is_grave severity }
+{
+    match severity {
+        Severity::Error | Severity::Warning => true,
+        Severity::Note => false,
+    }
+}
+
+// Whether it is of a job that starts as the machine does.
+fn is_at_reboot(report: &Report<'_, '_>) -> bool
+    ensures { result ≡ is_at_reboot report.now }
+{
+    match report {
+        Report::Job(job) => is_told_at_reboot(&job.times),
+        Report::Silent | Report::Misnamed(_) | Report::Setting { .. } | Report::Refused { .. } => {
+            false
+        }
+    }
+}
+
+fn is_told_at_reboot(told: &Told<'_>) -> bool
+    ensures { result ≡ is_told_at_reboot told.now }
+{
+    match told {
+        Told::Reboot => true,
+        Told::Nothing | Told::Runs { .. } => false,
+    }
+}
+
+// ---- what to beware of
+
+// The lines that a page has for what was found of each job.
+fn lines_of<'f>(
+    alloc: Global,
+    found: &'f [Vec<Finding>],
+) -> Result<Vec<Vec<PageLine<'f>>>, AllocError>
+    ensures { IfOk result (λ all. map (λ lines. lines_told lines.items) all.items ≡ warnings_of found.now) }
+{
+    let mut all = Vec::new(alloc);
+    for job in found {
+        let lines = page_lines(alloc, job.as_slice())?;
+        all.push(lines)?;
+    }
+    Ok(all)
+}
+
+// Those for what was found of a job: its warnings.
+fn page_lines<'f>(alloc: Global, found: &'f [Finding]) -> Result<Vec<PageLine<'f>>, AllocError>
+    ensures { IfOk result (λ lines. lines_told lines.items ≡ warnings_in found.now) }
+{
+    let mut lines = Vec::new(alloc);
+    for finding in found {
+        if is_warning(finding.severity) {
+            lines.push(warning_line(finding))?;
+        }
+    }
+    Ok(lines)
+}
+
+fn is_warning(severity: Severity) -> bool
+    ensures { result ≡ is_warning severity }
+{
+    match severity {
+        Severity::Warning => true,
+        Severity::Error | Severity::Note => false,
+    }
+}
+
+// A warning: its name, and what it says.
+fn warning_line(finding: &Finding) -> PageLine<'_>
+    ensures { line_told result ≡ warning_told finding.now }
+{
+    PageLine {
+        head: finding.name,
+        rest: finding.text.as_str(),
+    }
+}
+
+fn warnings_of<'l>(
+    alloc: Global,
+    all: &'l [Vec<PageLine<'l>>],
+) -> Result<Vec<Warnings<'l>>, AllocError>
+    ensures { IfOk result (λ warnings. map (λ w. lines_told w.lines.now) warnings.items ≡ map (λ lines. lines_told lines.items) all.now) }
+{
+    let mut warnings = Vec::new(alloc);
+    for lines in all {
+        let lines = lines.as_slice();
+        warnings.push(Warnings { lines })?;
+    }
+    Ok(warnings)
+}

@@ -1,0 +1,3 @@
+mod ExamplesTally
+mod Kept
+mod ToldFiles

@@ -1,0 +1,114 @@
+//! What was told of lines so far, and the status of a call.
+ghost use Rattle.std.specs.Prelude.{◌≡◌};
+ghost use Rattle.crontab.specs.Entries.{entry_seen};
+ghost use Rattle.croncheck_report.specs.FileSeen.{file_seen};
+ghost use Rattle.croncheck_reading.specs.Tally.{one_more, none_counted, counted, is_too_many, is_line_warned, one_more_if, added, with_file, status_of};
+
+use croncheck_report::file_seen::{FileSeen, is_late};
+use croncheck_report::report::Report;
+use croncheck_warnings::warnings::is_first_too_many;
+use crontab::line::{Dialect, Entry};
+
+/// What was told of the lines so far.
+#[derive(Clone, Copy, Default, Drop)]
+pub struct Tally {
+    /// The lines.
+    pub lines: u64,
+    /// The jobs and patterns that were read.
+    pub jobs: u64,
+    /// The lines that are refused.
+    pub refused: u64,
+    /// The lines that have a warning, and the files whose name has one. A plan counts none of lines.
+    pub warned: u64,
+    /// The files that cron ignores as a whole.
+    pub ignored: u64,
+}
+
+impl Tally {
+    /// Nothing is counted yet.
+    pub fn new() -> Tally
+        ensures { result ≡ none_counted }
+    {
+        Tally {
+            lines: 0,
+            jobs: 0,
+            refused: 0,
+            warned: 0,
+            ignored: 0,
+        }
+    }
+
+    /// Counts one more line, and whether it has a warning, or is the first that a crontab has too many. No count passes 2^64 - 1.
+    pub fn add(&mut self, is_too_many: bool, report: &Report<'_, '_>)
+        ensures { self.new ≡ added is_too_many self.old report.now }
+    {
+        let is_warned = is_line_warned(is_too_many, report);
+        self.count(report);
+        self.warned = one_more_if(is_warned, self.warned);
+    }
+
+    /// Counts one more line, and no warning. No count passes 2^64 - 1.
+    pub fn count(&mut self, report: &Report<'_, '_>)
+        ensures { self.new ≡ counted self.old report.now }
+    {
+        self.lines = one_more(self.lines);
+        match report {
+            Report::Job(_) => self.jobs = one_more(self.jobs),
+            Report::Refused { .. } => self.refused = one_more(self.refused),
+            Report::Silent | Report::Misnamed(_) | Report::Setting { .. } => {}
+        }
+    }
+
+    /// Counts one more file that cron ignores as a whole, if it does, and its name as a warning, if it passes over that. No
+    /// count passes 2^64 - 1.
+    pub fn end_file(&mut self, is_ignored: bool, is_passed_over: bool)
+        ensures { self.new ≡ with_file is_ignored is_passed_over self.old }
+    {
+        self.ignored = one_more_if(is_ignored, self.ignored);
+        self.warned = one_more_if(is_passed_over, self.warned);
+    }
+
+    /// The status of a call, if all could be read and written: 1 where a line is refused, where cron ignores a whole file, or where a
+    /// line has a warning and the call is strict, else 0.
+    pub fn status(&self, is_strict: bool) -> u8
+        ensures { result ≡ status_of is_strict self.now }
+    {
+        if self.refused != 0 || self.ignored != 0 || is_strict && self.warned != 0 {
+            1
+        } else {
+            0
+        }
+    }
+}
+
+// Whether a line is warned of, which may be the first that is too many.
+fn is_line_warned(is_too_many: bool, report: &Report<'_, '_>) -> bool
+    ensures { result ≡ is_line_warned is_too_many report.now }
+{
+    report.has_warnings() || is_too_many
+}
+
+/// Whether the line behind so many of a file is the first for which cron ignores it as too long.
+pub fn is_too_many(dialect: Dialect, lines: u64, entry: &Entry<'_>, file: &FileSeen) -> bool
+    ensures { result ≡ is_too_many dialect lines (entry_seen entry.now) (file_seen file.now) }
+{
+    match dialect {
+        Dialect::User => is_first_too_many(lines),
+        Dialect::System => !file.has_late() && is_late(one_more(lines), entry),
+        Dialect::Patterns => false,
+    }
+}
+
+// One more, if it counts.
+fn one_more_if(counts: bool, count: u64) -> u64
+    ensures { result ≡ one_more_if counts count }
+{
+    if counts { one_more(count) } else { count }
+}
+
+/// One more. No count passes 2^64 - 1.
+pub fn one_more(count: u64) -> u64
+    ensures { result ≡ one_more count }
+{
+    count.saturating_add(1)
+}

@@ -1,0 +1,151 @@
+-- What cron makes of a file as a whole. Source: docs/CRONTAB.md, of `no-newline`, `many-lines` and a refused line.
+use Rattle.std.specs.Prelude.{ℕ, Bool, true, false, not, ◌&&◌, ◌||◌, List, [], ◌++◌, codes, Option, Some, None, is_some, string_bytes, if◌then◌else◌}
+use Rattle.croncheck_report.specs.declared.file_seen.FileSeen.{FileSeen}
+use Rattle.crontab.specs.declared.line.Dialect.{Dialect}
+use Rattle.crontab.specs.declared.line.Dialect.TheVariants as dialects
+use Rattle.croncheck_files.specs.declared.fitness.Unfit.{Unfit}
+use Rattle.croncheck_report.specs.declared.report.Report.{Report}
+use Rattle.croncheck_report.specs.declared.report.Report.TheVariants as reports
+use Rattle.crontab.specs.Line.{Line, blank, comment, setting, job, pattern, refused}
+use Rattle.croncheck_files.specs.Fitness.{unfit_line}
+use Rattle.croncheck_warnings.specs.Warnings.{are_many_lines, is_behind_last, is_continued}
+
+-- a line counts for cron where no line feed ends it: it is neither blank nor a comment
+abbrev pub counts : Line → Bool
+counts blank = false
+counts comment = false
+counts (setting is_zone) = true
+counts (job task) = true
+counts (pattern text) = true
+counts (refused fault) = true
+
+-- the line is refused
+abbrev pub is_refused : Report → Bool
+is_refused reports.Silent = false
+is_refused (reports.Misnamed name) = false
+is_refused (reports.Setting seen has_feed) = false
+is_refused (reports.Job j) = false
+is_refused (reports.Refused start end why) = true
+
+-- ---- the file
+
+-- what contracts see of a file: its name as it is shown, that a line of it is refused, that its last line has no line feed and counts, that
+-- cron passes over it for its name, that a line which counts stands behind the last one that cron takes in a crontab of the system, why
+-- cron ignores it by what the file system says of it, if it does, and that its last line seems to go on in the next
+pub record File : Type 0 where
+  pub name : List ℕ
+  pub has_refused : Bool
+  pub is_unfed : Bool
+  pub is_passed_over : Bool
+  pub has_late : Bool
+  pub unfit : Option Unfit
+  pub is_open : Bool
+
+-- what contracts see of a file
+abbrev pub file_seen : FileSeen → File
+file_seen f = record {
+  name = string_bytes f.name;
+  has_refused = f.has_refused;
+  is_unfed = f.is_unfed;
+  is_passed_over = f.is_passed_over;
+  has_late = f.has_late;
+  unfit = f.unfit;
+  is_open = f.is_open;
+}
+
+-- a file of this name, of which no line was read
+abbrev pub unread : List ℕ → File
+unread name = record { name = name; has_refused = false; is_unfed = false; is_passed_over = false; has_late = false; unfit = None; is_open = false }
+
+-- the same, where cron ignores it for this, if it does
+abbrev pub unread_of : List ℕ → Option Unfit → File
+unread_of name unfit = record (unread name) { unfit = unfit }
+
+-- the same, where cron passes over it for its name
+abbrev pub passed_over : List ℕ → File
+passed_over name = record (unread name) { is_passed_over = true }
+
+-- a job or a setting at this line, counted from 1, stands behind the last one that cron takes in a crontab of the system
+abbrev pub is_late : ℕ → Line → Bool
+is_late number line = counts line && is_behind_last number
+
+-- a line seems to go on in the next: it is a job whose command ends in a backslash
+abbrev pub is_open : Line → Bool
+is_open blank = false
+is_open comment = false
+is_open (setting is_zone) = false
+is_open (job task) = is_continued task.command
+is_open (pattern text) = false
+is_open (refused fault) = false
+
+-- with one more line, the one of this number, which has its line feed or hasn't
+abbrev pub with_line : ℕ → Line → Bool → File → File
+with_line number line is_fed f = record f {
+  is_unfed = not is_fed && counts line;
+  has_late = f.has_late || is_late number line;
+  is_open = is_open line;
+}
+
+-- with the report of one more line
+abbrev pub with_report : Report → File → File
+with_report report f = record f { has_refused = is_refused report || f.has_refused }
+
+-- ---- its end
+
+-- a reason for which cron ignores the file of a name
+abbrev pub ignored : List ℕ → List ℕ → List ℕ
+ignored name reason = name ++ (codes ": cron ignores the whole file: " ++ reason)
+
+-- a text, or none
+abbrev pub if_so : Bool → List ℕ → List ℕ
+if_so holds text = if holds then text else []
+
+-- `many-lines`: a file of so many lines has too many: a user's counts its lines, the system's has to end its jobs and settings in time
+abbrev pub has_many_lines : Dialect → ℕ → File → Bool
+has_many_lines dialects.User lines f = are_many_lines lines
+has_many_lines dialects.System lines f = f.has_late
+has_many_lines dialects.Patterns lines f = false
+
+-- what is said of it
+abbrev pub many_lines_text : Dialect → List ℕ
+many_lines_text dialects.User = codes "it has more than 10000 lines"
+many_lines_text dialects.System = codes "a job or a setting stands behind line 10003"
+many_lines_text dialects.Patterns = []
+
+-- what is said of a file of this name that cron ignores for what the file system says of it, if it does
+abbrev pub unfit_reason : List ℕ → Option Unfit → List ℕ
+unfit_reason name None = []
+unfit_reason name (Some unfit) = ignored name (unfit_line unfit)
+
+-- cron ignores a crontab of so many lines as a whole: for what the file system says of it; or a line is refused, the last one has no line feed,
+-- or there are too many
+abbrev pub has_reason : Dialect → ℕ → File → Bool
+has_reason dialect lines f = is_some f.unfit || ((f.has_refused || f.is_unfed) || has_many_lines dialect lines f)
+
+-- the same of a file, which may be one of patterns: cron doesn't read it
+abbrev pub is_ignored : Dialect → ℕ → File → Bool
+is_ignored dialects.User lines f = has_reason dialects.User lines f
+is_ignored dialects.System lines f = has_reason dialects.System lines f
+is_ignored dialects.Patterns lines f = false
+
+-- the reasons for which cron ignores a crontab of so many lines
+abbrev pub reasons_of : Dialect → ℕ → File → List ℕ
+reasons_of dialect lines f =
+    ((unfit_reason f.name f.unfit ++ if_so f.has_refused (ignored f.name (codes "a line is refused\n")))
+    ++ if_so f.is_unfed (ignored f.name (codes "its last line has no line feed\n")))
+    ++ if_so (has_many_lines dialect lines f) (ignored f.name (many_lines_text dialect ++ codes "\n"))
+
+-- the same of a file, which may be one of patterns: cron doesn't read it
+abbrev pub whole_of : Dialect → ℕ → File → List ℕ
+whole_of dialects.User lines f = reasons_of dialects.User lines f
+whole_of dialects.System lines f = reasons_of dialects.System lines f
+whole_of dialects.Patterns lines f = []
+
+-- `file-name`: what is said of a file of this name, which cron passes over
+abbrev pub name_text : List ℕ → List ℕ
+name_text name =
+    name ++ codes ": warning: file-name: cron passes over a file of this name, and no line of it is read here: write letters, digits, _ and - alone\n"
+
+-- what is said of a file of so many lines as a whole
+abbrev pub ending_of : Dialect → ℕ → File → List ℕ
+ending_of dialect lines f = if f.is_passed_over then name_text f.name else whole_of dialect lines f

@@ -1,0 +1,5 @@
+pub mod Allowed
+pub mod FileSeen
+pub mod Report
+pub mod Settings
+pub mod Told

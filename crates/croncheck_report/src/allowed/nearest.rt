@@ -1,0 +1,36 @@
+//! What is said of a name that no warning has.
+
+use super::ALLOWABLE;
+use croncheck_output::front::{COMMAND_BYTES, push_front};
+use std::alloc::{AllocError, Global};
+use strsim::levenshtein;
+
+/// Writes that no warning has this name, and which name is nearest to it.
+pub fn push_unknown(alloc: Global, text: &mut String, name: &[u8]) -> Result<(), AllocError> {
+    text.push_str("No warning that may be allowed has the name ")?;
+    push_front(text, name, COMMAND_BYTES)?;
+    let nearest = nearest_to(alloc, name)?;
+    write!(text, "; the nearest is {nearest}.")
+}
+
+/// Of the names of warnings the one that the fewest changes of a letter make of this one, the first where several are as near.
+pub fn nearest_to(alloc: Global, name: &[u8]) -> Result<&'static str, AllocError> {
+    let text = std::str::from_utf8(name).unwrap_or("");
+    let (mut nearest, mut fewest) = (0, usize::MAX);
+    for place in 0..ALLOWABLE.len() {
+        let changes = levenshtein(alloc, text, name_at(place))?;
+        if changes < fewest {
+            fewest = changes;
+            nearest = place;
+        }
+    }
+    Ok(name_at(nearest))
+}
+
+// The name at a place of the list.
+fn name_at(place: usize) -> &'static str {
+    match ALLOWABLE.get(place) {
+        Some(name) => name,
+        None => "",
+    }
+}

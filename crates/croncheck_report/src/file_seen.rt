@@ -1,0 +1,296 @@
+//! What was seen of the file that is read, and what cron makes of it as a whole.
+ghost use Rattle.std.specs.Prelude.{◌≡◌, ◌++◌, codes, IfOk, OnOk, string_bytes};
+ghost use Rattle.crontab.specs.Entries.{entry_seen};
+ghost use Rattle.croncheck_report.specs.FileSeen.{file_seen, unread_of, passed_over, with_line, with_report, counts, is_refused, if_so, ignored, unfit_reason, is_ignored, name_text, reasons_of, whole_of, ending_of, is_late, is_open, has_many_lines, many_lines_text};
+
+use crate::report::Report;
+use croncheck_files::fitness::Unfit;
+use croncheck_warnings::warnings::command::is_continued;
+use croncheck_warnings::warnings::{are_many_lines, is_behind_last};
+use crontab::line::{Dialect, Entry};
+use std::alloc::{AllocError, Global};
+
+/// What was seen of the lines of a file.
+#[derive(Drop)]
+pub struct FileSeen {
+    // Its name, as it is shown.
+    name: String,
+    has_refused: bool,
+    // Its last line has no line feed, and is neither blank nor a comment.
+    is_unfed: bool,
+    // Cron passes over it for its name, so that none of its lines is read.
+    is_passed_over: bool,
+    // A job or a setting stands behind the last line at which cron takes one in a crontab of the system.
+    has_late: bool,
+    // Why cron ignores it by what the file system says of it, if it does.
+    unfit: Option<Unfit>,
+    // Its last line seems to go on in the next.
+    is_open: bool,
+}
+
+impl FileSeen {
+    /// A file of which no line was read, by its name as it is shown, and why cron ignores it by what the file system says of it,
+    /// if it does.
+    pub fn new(name: String, unfit: Option<Unfit>) -> FileSeen
+        ensures { file_seen result ≡ unread_of (string_bytes name) unfit }
+    {
+        FileSeen {
+            name,
+            has_refused: false,
+            is_unfed: false,
+            is_passed_over: false,
+            has_late: false,
+            unfit,
+            is_open: false,
+        }
+    }
+
+    /// A file that cron passes over for its name, by that name as it is shown.
+    pub fn passed_over(name: String) -> FileSeen
+        ensures { file_seen result ≡ passed_over (string_bytes name) }
+    {
+        FileSeen {
+            name,
+            has_refused: false,
+            is_unfed: false,
+            is_passed_over: true,
+            has_late: false,
+            unfit: None,
+            is_open: false,
+        }
+    }
+
+    /// Its name, as it is shown.
+    pub fn name(&self) -> &str
+        ensures { result.now ≡ string_bytes self.now.name }
+    {
+        self.name.as_str()
+    }
+
+    /// A line of it is refused.
+    pub fn has_refused(&self) -> bool
+        ensures { result ≡ self.now.has_refused }
+    {
+        self.has_refused
+    }
+
+    /// Its last line has no line feed, and is neither blank nor a comment.
+    pub fn is_unfed(&self) -> bool
+        ensures { result ≡ self.now.is_unfed }
+    {
+        self.is_unfed
+    }
+
+    /// A job or a setting stands behind the last line at which cron takes one in a crontab of the system.
+    pub fn has_late(&self) -> bool
+        ensures { result ≡ (file_seen self.now).has_late }
+    {
+        self.has_late
+    }
+
+    /// Why cron ignores it by what the file system says of it, if it does.
+    pub fn unfit(&self) -> Option<Unfit>
+        ensures { result ≡ (file_seen self.now).unfit }
+    {
+        self.unfit
+    }
+
+    /// Its last line seems to go on in the next.
+    pub fn is_open(&self) -> bool
+        ensures { result ≡ (file_seen self.now).is_open }
+    {
+        self.is_open
+    }
+
+    /// Takes up one more line, the one of this number, counted from 1, and whether a line feed ends it.
+    pub fn add_line(&mut self, number: u64, entry: &Entry<'_>, is_fed: bool)
+        ensures { file_seen self.new ≡ with_line number (entry_seen entry.now) is_fed (file_seen self.old) }
+    {
+        self.is_unfed = !is_fed && counts(entry);
+        self.has_late = self.has_late || is_late(number, entry);
+        self.is_open = is_open(entry);
+    }
+
+    /// Takes up the report of a line.
+    pub fn add_report(&mut self, report: &Report<'_, '_>)
+        ensures { file_seen self.new ≡ with_report report.now (file_seen self.old) }
+    {
+        if is_refused(report) {
+            self.has_refused = true;
+        }
+    }
+
+    /// What cron makes of the file of so many lines as a whole: that it passes over it for its name, or a line for each
+    /// reason for which it ignores it. Nothing of a file of patterns, which cron doesn't read.
+    pub fn ending(&self, alloc: Global, dialect: Dialect, lines: u64) -> Result<String, AllocError>
+        ensures { IfOk result (λ text. string_bytes text ≡ ending_of dialect lines (file_seen self.now)) }
+    {
+        if self.is_passed_over {
+            return name_text(alloc, self.name.as_str());
+        }
+        self.whole_text(alloc, dialect, lines)
+    }
+
+    // A line for each reason for which cron ignores the file of so many lines as a whole.
+    fn whole_text(&self, alloc: Global, dialect: Dialect, lines: u64) -> Result<String, AllocError>
+        ensures { IfOk result (λ text. string_bytes text ≡ whole_of dialect lines (file_seen self.now)) }
+    {
+        match dialect {
+            Dialect::Patterns => Ok(String::new(alloc)),
+            Dialect::User => self.reasons(alloc, Dialect::User, lines),
+            Dialect::System => self.reasons(alloc, Dialect::System, lines),
+        }
+    }
+
+    /// Whether cron passes over it for its name.
+    pub fn is_passed_over(&self) -> bool
+        ensures { result ≡ (file_seen self.now).is_passed_over }
+    {
+        self.is_passed_over
+    }
+
+    /// Whether cron ignores the file of so many lines as a whole. One of patterns it doesn't read.
+    pub fn is_ignored(&self, dialect: Dialect, lines: u64) -> bool
+        ensures { result ≡ is_ignored dialect lines (file_seen self.now) }
+    {
+        match dialect {
+            Dialect::Patterns => false,
+            Dialect::User | Dialect::System => {
+                self.unfit.is_some()
+                    || self.has_refused
+                    || self.is_unfed
+                    || self.has_many_lines(dialect, lines)
+            }
+        }
+    }
+
+    /// Whether cron ignores the file of so many lines as too long.
+    pub fn has_many_lines(&self, dialect: Dialect, lines: u64) -> bool
+        ensures { result ≡ has_many_lines dialect lines (file_seen self.now) }
+    {
+        match dialect {
+            Dialect::User => are_many_lines(lines),
+            Dialect::System => self.has_late,
+            Dialect::Patterns => false,
+        }
+    }
+
+    // A line for each reason for which cron ignores a crontab of so many lines.
+    fn reasons(&self, alloc: Global, dialect: Dialect, lines: u64) -> Result<String, AllocError>
+        ensures { IfOk result (λ text. string_bytes text ≡ reasons_of dialect lines (file_seen self.now)) }
+    {
+        let name = self.name.as_str();
+        let has_many = self.has_many_lines(dialect, lines);
+        let mut text = String::new(alloc);
+        push_unfit(&mut text, name, self.unfit)?;
+        push_if(&mut text, self.has_refused, name, "a line is refused\n")?;
+        push_if(
+            &mut text,
+            self.is_unfed,
+            name,
+            "its last line has no line feed\n",
+        )?;
+        push_if(&mut text, has_many, name, many_lines_line(dialect))?;
+        Ok(text)
+    }
+}
+
+/// What is said of a file that cron ignores as too long.
+pub fn many_lines_text(dialect: Dialect) -> &'static str
+    ensures { result.now ≡ many_lines_text dialect }
+{
+    match dialect {
+        Dialect::User => "it has more than 10000 lines",
+        Dialect::System => "a job or a setting stands behind line 10003",
+        Dialect::Patterns => "",
+    }
+}
+
+// The same, as a line.
+fn many_lines_line(dialect: Dialect) -> &'static str
+    ensures { result.now ≡ many_lines_text dialect ++ codes "\n" }
+{
+    match dialect {
+        Dialect::User => "it has more than 10000 lines\n",
+        Dialect::System => "a job or a setting stands behind line 10003\n",
+        Dialect::Patterns => "\n",
+    }
+}
+
+// What is said of a file of this name, which cron passes over.
+fn name_text(alloc: Global, name: &str) -> Result<String, AllocError>
+    ensures { IfOk result (λ text. string_bytes text ≡ name_text name.now) }
+{
+    format!(in alloc;
+        "{name}: warning: file-name: cron passes over a file of this name, and no line of it is read here: write letters, digits, _ and - alone\n"
+    )
+}
+
+// The line of what the file system says, if cron ignores the file for it.
+fn push_unfit(text: &mut String, name: &str, unfit: Option<Unfit>) -> Result<(), AllocError>
+    ensures { OnOk result (string_bytes text.new ≡ string_bytes text.old ++ unfit_reason name.now unfit) }
+{
+    match unfit {
+        Some(unfit) => push_ignored(text, name, unfit.line()),
+        None => Ok(()),
+    }
+}
+
+// The line of a reason, if it holds.
+fn push_if(text: &mut String, holds: bool, name: &str, reason: &str) -> Result<(), AllocError>
+    ensures { OnOk result (string_bytes text.new ≡ string_bytes text.old ++ if_so holds (ignored name.now reason.now)) }
+{
+    if holds {
+        push_ignored(text, name, reason)?;
+    }
+    Ok(())
+}
+
+fn push_ignored(text: &mut String, name: &str, reason: &str) -> Result<(), AllocError>
+    ensures { OnOk result (string_bytes text.new ≡ string_bytes text.old ++ ignored name.now reason.now) }
+{
+    text.push_str(name)?;
+    text.push_str(": cron ignores the whole file: ")?;
+    text.push_str(reason)
+}
+
+/// Whether the report of a line is a refusal.
+pub fn is_refused(report: &Report<'_, '_>) -> bool
+    ensures { result ≡ is_refused report.now }
+{
+    match report {
+        Report::Refused { .. } => true,
+        Report::Silent | Report::Misnamed(_) | Report::Setting { .. } | Report::Job(_) => false,
+    }
+}
+
+/// Whether the line of this number, counted from 1, is a job or a setting behind the last one that cron takes in a crontab of the system.
+pub fn is_late(number: u64, entry: &Entry<'_>) -> bool
+    ensures { result ≡ is_late number (entry_seen entry.now) }
+{
+    counts(entry) && is_behind_last(number)
+}
+
+// Whether the line of an entry counts for cron where no line feed ends it.
+fn counts(entry: &Entry<'_>) -> bool
+    ensures { result ≡ counts (entry_seen entry.now) }
+{
+    match entry {
+        Entry::Blank | Entry::Comment => false,
+        Entry::Setting { .. } | Entry::Job(_) | Entry::Pattern(_) | Entry::Refused { .. } => true,
+    }
+}
+
+// Whether the line of an entry seems to go on in the next: it is a job whose command ends in a backslash.
+fn is_open(entry: &Entry<'_>) -> bool
+    ensures { result ≡ is_open (entry_seen entry.now) }
+{
+    match entry {
+        Entry::Job(job) => is_continued(job.command),
+        Entry::Blank
+        | Entry::Comment
+        | Entry::Setting { .. }
+        | Entry::Pattern(_)
+        | Entry::Refused { .. } => false,
+    }
+}

@@ -1,0 +1,81 @@
+//! What all reports share.
+ghost use Rattle.std.specs.Prelude.{◌≡◌, None, Some};
+ghost use Rattle.croncheck_report.specs.Settings.{off_from, followed_from, stop_of};
+
+use crate::settings::{Settings, Tongue};
+use croncheck_runs::clock::stop::Stop;
+use croncheck_runs::runs::Listing;
+use jiff::tz::TimeZone;
+
+/// What all reports share.
+#[derive(Clone, Copy)]
+pub struct Shared<'z> {
+    /// The zone whose clock is shown.
+    pub zone: TimeZone<'z>,
+    /// Where the clock's window ends before year 5000 does.
+    pub stop: Option<Stop>,
+    /// How many runs are listed, or up to when.
+    pub listing: Listing,
+    /// The language of weekdays.
+    pub language: Tongue,
+    /// The second from which on it is said how far off a run is, if that is said.
+    pub off_from: Option<i64>,
+    /// The second from which on the clock of the runs before the start is followed, if these are told.
+    pub followed_from: Option<i64>,
+    /// Another zone, whose clock is shown too.
+    pub other_zone: Option<TimeZone<'z>>,
+}
+
+impl<'z> Shared<'z> {
+    /// What the reports by some settings share, whose clock is that of this zone.
+    pub fn of(zone: TimeZone<'z>, settings: &Settings<'_>) -> Shared<'z>
+        ensures zone { result.zone ≡ zone.entry }
+        ensures stop { result.stop ≡ stop_of settings.now }
+        ensures listing { result.listing ≡ settings.now.listing }
+        ensures language { result.language ≡ settings.now.language }
+        ensures off_from { result.off_from ≡ off_from settings.now }
+        ensures followed_from { result.followed_from ≡ followed_from settings.now }
+        ensures other_zone { result.other_zone ≡ None }
+    {
+        Shared {
+            zone,
+            stop: settings.stop(),
+            listing: settings.listing,
+            language: settings.language,
+            off_from: off_from(settings),
+            followed_from: followed_from(settings),
+            other_zone: None,
+        }
+    }
+
+    /// The same, with the clock of another zone beside each run.
+    pub fn with_other_zone(self, other: TimeZone<'z>) -> Shared<'z>
+        ensures { result ≡ record self.entry { other_zone = Some other.entry } }
+    {
+        Shared {
+            other_zone: Some(other),
+            ..self
+        }
+    }
+}
+
+// From which second on it is said how far off a run is.
+fn off_from(settings: &Settings<'_>) -> Option<i64>
+    ensures { result ≡ off_from settings.now }
+{
+    if settings.is_from_now {
+        Some(settings.changes.start.second())
+    } else {
+        None
+    }
+}
+
+// From which second on the clock of the runs before the start is followed.
+fn followed_from(settings: &Settings<'_>) -> Option<i64>
+    ensures { result ≡ followed_from settings.now }
+{
+    match settings.previous {
+        Some(asked) => Some(asked.from),
+        None => None,
+    }
+}

@@ -1,0 +1,8 @@
+//! When a job runs by the clock of a zone: the clock as far as it is followed, and the runs behind a start and before it.
+#![tactic(auto)]
+
+pub mod clock;
+pub mod length;
+pub mod past;
+pub mod previous;
+pub mod runs;

@@ -1,0 +1,5 @@
+mod ClockTexts
+mod ExamplesAgo
+mod ExamplesOff
+mod ExamplesShown
+mod Found

@@ -1,0 +1,4 @@
+pub mod Ago
+pub mod Off
+pub mod Reported
+pub mod Shown

@@ -1,0 +1,113 @@
+-- What a clock shows, and reports, as they are shown.
+use Rattle.std.specs.Prelude.{◌≡◌, ℕ, ◌-◌, ◌/◌, ◌%◌, ℤ, pos, int_lt, unsigned_abs, Bool, true, false, not, ◌==◌, List, [], ◌∷◌, ◌++◌, codes, Option, Some, None, if◌then◌else◌}
+use Rattle.std.specs.Fmt.{decimal, signed_decimal}
+use Rattle.jiff_tz.specs.declared.timezone.TimeZone.{TimeZone}
+use Rattle.croner_words.specs.Swedish.{a_with_ring, o_with_dots}
+use Rattle.croner_base.specs.declared.time.civil.CivilDateTime.{CivilDateTime}
+use Rattle.croner_base.specs.declared.time.table.TableTime.{TableTime}
+use Rattle.croner_base.specs.Civil.{wall_second, weekday_of_second}
+use Rattle.croner_base.specs.CivilText.{two_places, date_text, time_text}
+use Rattle.croner_base.specs.TableZone.{table_moment}
+use Rattle.croner_base.specs.Zone.{reading}
+use Rattle.croner_base.specs.ZoneTable.{ahead_at}
+use Rattle.croner_base.specs.ZonedZone.{is_timestamp_second}
+use Rattle.croncheck_runs.specs.declared.clock.stop.Stop.{Stop}
+use Rattle.croncheck_report.specs.declared.report.Report.{Report}
+use Rattle.croncheck_report.specs.declared.report.Report.TheVariants as reports
+use Rattle.croncheck_report.specs.declared.settings.Tongue.{Tongue}
+use Rattle.croncheck_report.specs.declared.settings.Tongue.TheVariants as tongues
+use Rattle.croncheck_report.specs.Report.{is_setting_found}
+
+-- ---- offsets
+
+-- how far a zone's clock is ahead of UTC at a second: what the zone gives for each second that it has, which are those of the years -9998 to
+-- 9998 at least
+abbrev pub offset_of : TimeZone → ℤ → ℤ
+offset_of zone second = if is_timestamp_second second then ahead_at zone second else pos 0
+
+-- ---- the clock
+
+-- the front of a weekday's name, by how many days it comes behind Sunday
+abbrev pub english_weekday : ℕ → List ℕ
+english_weekday n =
+    if n == 0 then codes "Sun"
+    else if n == 1 then codes "Mon"
+    else if n == 2 then codes "Tue"
+    else if n == 3 then codes "Wed"
+    else if n == 4 then codes "Thu"
+    else if n == 5 then codes "Fri"
+    else codes "Sat"
+
+-- the same in Swedish
+abbrev pub swedish_weekday : ℕ → List ℕ
+swedish_weekday n =
+    if n == 0 then codes "s" ++ (o_with_dots ++ codes "n")
+    else if n == 1 then codes "m" ++ (a_with_ring ++ codes "n")
+    else if n == 2 then codes "tis"
+    else if n == 3 then codes "ons"
+    else if n == 4 then codes "tor"
+    else if n == 5 then codes "fre"
+    else codes "l" ++ (o_with_dots ++ codes "r")
+
+-- the same in a language
+abbrev pub weekday_text : Tongue → ℕ → List ℕ
+weekday_text tongues.English n = english_weekday n
+weekday_text tongues.Swedish n = swedish_weekday n
+
+-- seconds behind hours and minutes: nothing where there are none
+abbrev pub odd_seconds : ℕ → List ℕ
+odd_seconds n = if n == 0 then [] else 58 ∷ two_places n
+
+-- so many seconds as hours, minutes and, where there are some, seconds
+abbrev pub clock_length : ℕ → List ℕ
+clock_length n = two_places (n / 3_600) ++ (58 ∷ (two_places (n / 60 % 60) ++ odd_seconds (n % 60)))
+
+-- the sign of a number of seconds ahead of UTC
+abbrev pub sign_text : ℤ → List ℕ
+sign_text ahead = if int_lt ahead (pos 0) then codes "-" else codes "+"
+
+-- how far a clock is ahead of UTC, or behind it, as `+02:00`
+abbrev pub ahead_text : ℤ → List ℕ
+ahead_text ahead = sign_text ahead ++ clock_length (unsigned_abs ahead)
+
+-- what a clock shows at a second: the weekday, the date, the time and how far it is ahead of UTC; and the second
+abbrev pub clock_text : List ℕ → CivilDateTime → ℤ → ℤ → List ℕ
+clock_text weekday c ahead second =
+    weekday ++ (32 ∷ (date_text c.date.year c.date.month c.date.day ++ (32 ∷ (time_text c.time.hour c.time.minute c.time.second
+    ++ (32 ∷ (ahead_text ahead ++ (codes "  @" ++ signed_decimal second)))))))
+
+-- what is shown of a run: the date and time that its clock reads, and how far the zone's clock is ahead of UTC then; the weekday in a language
+abbrev pub IsClockTextIn : Tongue → TimeZone → TableTime → List ℕ → Type 0
+IsClockTextIn language zone run text =
+    (civil : CivilDateTime) × (wall_second civil ≡ reading (table_moment run))
+    × (text ≡ clock_text (weekday_text language (weekday_of_second (reading (table_moment run)))) civil (offset_of zone run.second) run.second)
+
+-- the same, with the weekday in English
+abbrev pub IsClockText : TimeZone → TableTime → List ℕ → Type 0
+IsClockText zone run text = IsClockTextIn tongues.English zone run text
+
+-- ---- the text of a report
+
+-- there is something to tell of a line: it is a job, is refused, sets a variable and something is found of that, or allows a name that no
+-- warning has
+abbrev pub is_told : Report → Bool
+is_told reports.Silent = false
+is_told (reports.Misnamed name) = true
+is_told (reports.Setting seen has_feed) = is_setting_found seen
+is_told (reports.Job j) = true
+is_told (reports.Refused start end why) = true
+
+-- a file and the number of a line there, as they stand in front of what is told of it
+abbrev pub place_text : List ℕ → ℕ → List ℕ
+place_text file line = file ++ (codes ":" ++ (decimal line ++ codes "  "))
+
+-- the text is lines, one at least, the last of which has its line feed
+abbrev pub AreLines : List ℕ → Type 0
+AreLines text = (front : List ℕ) × (text ≡ front ++ 10 ∷ [])
+
+-- ---- the end of a window
+
+-- what is said of a listing that ends with the clock's window: of its stop, if it has one, in words that no definition says
+abbrev pub IsWindowEnd : Option Stop → List ℕ → Type 0
+IsWindowEnd None text = text ≡ codes "and maybe more: the zone's clock is not followed any further"
+IsWindowEnd (Some stop) text = (words : List ℕ) × (text ≡ codes "and maybe more: the zone's clock is not followed over " ++ words)

@@ -1,0 +1,5 @@
+mod ExamplesPresets
+mod ExamplesStarred
+mod ExamplesUsers
+mod ExamplesWarnings
+pub mod Items

@@ -1,0 +1,5 @@
+pub mod Hidden
+pub mod Presets
+pub mod Starred
+pub mod Users
+pub mod Warnings

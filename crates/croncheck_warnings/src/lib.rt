@@ -1,0 +1,7 @@
+//! What is to be said of a line that is taken, by its text and its times alone: no clock is asked.
+#![tactic(auto)]
+
+pub mod presets;
+pub mod starred;
+pub mod users;
+pub mod warnings;

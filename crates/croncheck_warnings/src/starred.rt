@@ -1,0 +1,39 @@
+//! Which jobs of a crontab cron treats as starred where the clock changes.
+ghost use Rattle.std.specs.Prelude.{◌≡◌};
+ghost use Rattle.std.specs.Str.{bytes_eq};
+ghost use Rattle.crontab.specs.Line.{next};
+ghost use Rattle.croncheck_warnings.specs.Starred.{has_clock_star, is_starred};
+
+use crontab::bytes::{Kind, begins_with, cut};
+
+/// The nickname whose hours are a star.
+const HOURLY: &str = "@hourly";
+
+/// Whether a job is starred whose times are written so: the text of the minutes or that of the hours begins with a star, or it is `@hourly`.
+pub fn is_starred(times: &[u8]) -> bool
+    ensures { result ≡ is_starred times.now }
+{
+    has_clock_star(times) || is_word(times, HOURLY)
+}
+
+// Whether the text of the minutes or that of the hours begins with a star.
+fn has_clock_star(times: &[u8]) -> bool
+    ensures { result ≡ has_clock_star times.now }
+{
+    begins_with(times, b'*') || begins_with(next(times), b'*')
+}
+
+// What stands behind the first word and the blanks after it.
+fn next(text: &[u8]) -> &[u8]
+    ensures { result.now ≡ next text.now }
+{
+    let (_, rest) = cut(text, Kind::Word);
+    let (_, rest) = cut(rest, Kind::Blank);
+    rest
+}
+
+fn is_word(text: &[u8], word: &str) -> bool
+    ensures { result ≡ bytes_eq text.now word.now }
+{
+    text == word.as_bytes()
+}

@@ -1,0 +1,242 @@
+//! The names of warnings, and what they say.
+ghost use Rattle.std.specs.Prelude.{◌≡◌};
+ghost use Rattle.croncheck_warnings.specs.Warnings.{field_of, warning_name, other_name};
+
+use super::sides::{Dates, Month};
+use super::{OtherWarning, Warning};
+use crate::presets::PRESET;
+use croner::parser::PatternField;
+use std::alloc::{AllocError, Global};
+
+impl Warning {
+    /// The name by which it is known, as `either-day`.
+    pub fn name(self) -> &'static str
+        ensures { result.now ≡ warning_name self }
+    {
+        match self {
+            Warning::EitherDay => "either-day",
+            Warning::UnevenStep(_) => "uneven-step",
+            Warning::StepBeyond(_) => "step-beyond",
+            Warning::RangeDown(_) => "range-down",
+            Warning::PassedOver(_) => "passed-over",
+            Warning::LargeNumber(_) => "large-number",
+            Warning::WholeHour => "whole-hour",
+            Warning::ShortMonths => "short-months",
+            Warning::Gone => "gone",
+            Warning::Never => "never",
+            Warning::NoCommand => "no-command",
+            Warning::LooksLikeField => "looks-like-field",
+            Warning::User => "user",
+            Warning::Percent => "percent",
+            Warning::Continued => "continued",
+            Warning::ControlByte => "control-byte",
+            Warning::NoNewline => "no-newline",
+            Warning::CarriageReturn => "carriage-return",
+            Warning::EmptyItem => "empty-item",
+            Warning::OtherName(_) => "other-name",
+            Warning::Preset(_) => PRESET,
+        }
+    }
+
+    /// The field that it is of, where it is one of a field.
+    pub fn field(self) -> Option<PatternField>
+        ensures { result ≡ field_of self }
+    {
+        match self {
+            Warning::UnevenStep(field)
+            | Warning::StepBeyond(field)
+            | Warning::RangeDown(field)
+            | Warning::PassedOver(field)
+            | Warning::LargeNumber(field)
+            | Warning::OtherName(field) => Some(field),
+            Warning::EitherDay
+            | Warning::WholeHour
+            | Warning::ShortMonths
+            | Warning::Gone
+            | Warning::Never
+            | Warning::NoCommand
+            | Warning::LooksLikeField
+            | Warning::User
+            | Warning::Percent
+            | Warning::Continued
+            | Warning::ControlByte
+            | Warning::NoNewline
+            | Warning::CarriageReturn
+            | Warning::EmptyItem
+            | Warning::Preset(_) => None,
+        }
+    }
+
+    /// What happens, and what to write instead.
+    pub fn text(self) -> &'static str {
+        match self {
+            Warning::EitherDay => EITHER_DAY,
+            Warning::UnevenStep(_) => UNEVEN_STEP,
+            Warning::StepBeyond(_) => STEP_BEYOND,
+            Warning::RangeDown(_) => RANGE_DOWN,
+            Warning::PassedOver(_) => PASSED_OVER,
+            Warning::LargeNumber(_) => LARGE_NUMBER,
+            Warning::WholeHour => WHOLE_HOUR,
+            Warning::ShortMonths => SHORT_MONTHS,
+            Warning::Gone => GONE,
+            Warning::Never => NEVER,
+            Warning::NoCommand => NO_COMMAND,
+            Warning::LooksLikeField => LOOKS_LIKE_FIELD,
+            Warning::User => USER,
+            Warning::Percent => PERCENT,
+            Warning::Continued => CONTINUED,
+            Warning::ControlByte => CONTROL_BYTE,
+            Warning::NoNewline => NO_NEWLINE,
+            Warning::CarriageReturn => CARRIAGE_RETURN,
+            Warning::EmptyItem => EMPTY_ITEM,
+            Warning::OtherName(_) => OTHER_NAME,
+            Warning::Preset(_) => OTHER_READING,
+        }
+    }
+}
+
+impl OtherWarning {
+    /// The name by which it is known, as `no-zone`.
+    pub fn name(self) -> &'static str
+        ensures { result.now ≡ other_name self }
+    {
+        match self {
+            OtherWarning::NoNewline => Warning::NoNewline.name(),
+            OtherWarning::ControlByte => Warning::ControlByte.name(),
+            OtherWarning::NoZone => "no-zone",
+            OtherWarning::NotExpanded => "not-expanded",
+            OtherWarning::ManyLines => "many-lines",
+        }
+    }
+
+    /// What happens, and what to write instead.
+    pub fn text(self) -> &'static str {
+        match self {
+            OtherWarning::NoNewline => Warning::NoNewline.text(),
+            OtherWarning::ControlByte => Warning::ControlByte.text(),
+            OtherWarning::NoZone => NO_ZONE,
+            OtherWarning::NotExpanded => NOT_EXPANDED,
+            OtherWarning::ManyLines => MANY_LINES,
+        }
+    }
+}
+
+/// The text of a warning, with the dates of `either-day` where there are some, and of `preset` with what the program does.
+pub fn warning_text(
+    alloc: Global,
+    warning: Warning,
+    dates: &Option<Dates>,
+) -> Result<String, AllocError> {
+    if let Warning::Preset(reading) = warning {
+        return reading.sentence(alloc);
+    }
+    let mut text = String::from_str(alloc, warning.text())?;
+    if let (Warning::EitherDay, Some(dates)) = (warning, dates) {
+        push_dates(&mut text, dates)?;
+    }
+    Ok(text)
+}
+
+// Writes the days of a month by each day field.
+fn push_dates(text: &mut String, dates: &Dates) -> Result<(), AllocError> {
+    let Month {
+        year,
+        month,
+        length,
+        ..
+    } = dates.month;
+    write!(text, " In {year:04}-{month:02} the day of the month names ")?;
+    push_days(text, dates.sides.by_day, length)?;
+    text.push_str(", and the weekday ")?;
+    push_days(text, dates.sides.by_weekday, length)?;
+    text.push_str(".")
+}
+
+// Writes the days of a month of so many days whose bits are set.
+fn push_days(text: &mut String, days: u32, length: u32) -> Result<(), AllocError> {
+    match days.count_ones() {
+        0 => return text.push_str("no day"),
+        named if named == length => return text.push_str("each day"),
+        _ => {}
+    }
+    let mut between = "";
+    for day in 1..=31u32 {
+        if (days >> (day - 1)) & 1 == 1 {
+            write!(text, "{between}{day}")?;
+            between = ", ";
+        }
+    }
+    Ok(())
+}
+
+const EITHER_DAY: &str =
+    "The job runs on each day that the day of the month or the weekday names, not only where both do. For one of the two, write `*` for the other; for both, let the command test the second, as `[ $(date +\\%u) = 1 ] && ..` does for Monday. In a file of patterns (`--patterns`) `+` before the weekday does it; cron refuses that.";
+
+const UNEVEN_STEP: &str =
+    "The step is counted anew from the field's first value, so that from the last run of an hour, minute or day to the next it is shorter. Write a step that divides 60 (24 for hours).";
+
+const STEP_BEYOND: &str =
+    "No second value of the range is so far away, so the first alone is named. Write that value; a longer interval takes the field of the greater unit, or more lines.";
+
+const RANGE_DOWN: &str =
+    "A range that goes down names nothing to cron. Write it as two, as `22-23,0-4` for `22-4`, and `fri-7` for `fri-sun`.";
+
+const PASSED_OVER: &str =
+    "Cron passes over what stands behind a number, a name or a star and is no comma, with the rest of the field: `1#2` is 1, `0~5` is 0, `*5` is each value. Write only what counts.";
+
+const LARGE_NUMBER: &str =
+    "Cron keeps of a number what is left after division by 4294967296. Write that number.";
+
+const WHOLE_HOUR: &str =
+    "The job runs in each of the sixty minutes of its hours. For one run an hour write one minute, as `0`; where each minute is meant, write the hours as one range, as `9-17`.";
+
+const SHORT_MONTHS: &str =
+    "A named month is too short for a named day, and has no run on that day. For a run in each month name a day up to 28, or the days 28 to 31 and let the command test for the last one.";
+
+const GONE: &str =
+    "All years that it names are past, so it never runs again. Name a later year, or take the line out.";
+
+const NEVER: &str =
+    "No run is left before year 5000. Look for a date that doesn't exist, a range that runs down, as `10-5`, or a time that the clock skips.";
+
+const NO_COMMAND: &str =
+    "The line has no command, so cron starts a shell that does nothing. Write the command behind the times; for none put `#` in front of the line.";
+
+const LOOKS_LIKE_FIELD: &str =
+    "A crontab has five fields, so a sixth is taken for the command or the user. Take one field out: seconds and years have no place there.";
+
+const USER: &str =
+    "In a crontab of the system the word behind the times is the user who runs the command; in a user's crontab it is the command. Put the user's name in, or take it out.";
+
+const PERCENT: &str =
+    "Cron ends the command at a percent sign that no backslash takes in, and gives it what follows as its input. Write `\\%` for a percent sign.";
+
+const CONTINUED: &str =
+    "Cron has no continued lines: the command ends here, and the next line is read as one of its own. Write the command on one line, or into a script.";
+
+const CONTROL_BYTE: &str =
+    "A control byte, or a character that nobody sees, stands in the line: it can hide what cron runs. Take it out.";
+
+const NO_NEWLINE: &str =
+    "The last line doesn't end with a line feed, so cron ignores the whole file. End the line.";
+
+const NO_ZONE: &str =
+    "This cron doesn't run jobs in the zone of a setting: it is only a variable of the commands. Write the times in the machine's zone.";
+
+const NOT_EXPANDED: &str =
+    "Cron takes a value as it stands: it expands neither `$` nor `~`, and a comment behind it is a part of it. Write the whole path, and put a comment on a line of its own.";
+
+const CARRIAGE_RETURN: &str =
+    "The line ends with a carriage return, which becomes part of the command. Save the file with line feeds alone.";
+
+const EMPTY_ITEM: &str =
+    "A list has an empty item, which is skipped here and refused by cron. Take out the comma, or write what is missing.";
+
+const OTHER_NAME: &str =
+    "The name is one of another field, and its number counts here: `MON` among months is January. Write the number, or a name of this field.";
+
+const OTHER_READING: &str =
+    "The program that the patterns are read for refuses this one, or reads it otherwise.";
+
+const MANY_LINES: &str =
+    "The file is longer than cron takes it, so cron ignores it. Write fewer lines.";

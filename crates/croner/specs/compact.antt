@@ -1,0 +1,3 @@
+-- Jobs in few words.
+pub mod WordFields
+pub mod Compact

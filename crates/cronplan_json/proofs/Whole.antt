@@ -1,0 +1,112 @@
+-- The object of a plan has no float, so that its text is known.
+use Rattle.std.proofs.Common.{◌≡◌, ◌∙◌, ℕ, suc, ℤ, pos, negsuc, List, [], ◌∷◌, Bool, true, false, if◌then◌else◌, Option, Some, None, map, ap, refl}
+use Rattle.std.specs.Prelude.{is_some}
+use Rattle.croner_base.specs.declared.time.civil.CivilDateTime.{CivilDateTime}
+use Rattle.cronplan.specs.declared.days.HourCell.{HourCell}
+use Rattle.cronplan.specs.declared.jobs.Frequent.{Frequent}
+use Rattle.cronplan.specs.declared.start.JobStart.{JobStart}
+use Rattle.cronplan_forms.specs.declared.answers.busy.ShownMoment.{ShownMoment}
+use Rattle.cronplan_forms.specs.declared.answers.quiet.ShownWindow.{ShownWindow}
+use Rattle.cronplan_forms.specs.declared.clock.ClockTime.{ClockTime}
+use Rattle.cronplan_forms.specs.declared.job.Job.{Job}
+use Rattle.cronplan_forms.specs.declared.view.View.{View}
+use Rattle.cronplan_forms.specs.declared.week.WeekDay.{WeekDay}
+use Rattle.cronplan.specs.Moments.{at_second}
+use Rattle.serde_json.specs.Data.{Data, null, array}
+use Rattle.serde_json.specs.Find.{is_float, of_integer}
+use Rattle.serde_json.specs.View.{items_of}
+use Rattle.serde_json.specs.Written.{has_float, items_have_float, members_have_float, compact_text}
+use Rattle.cronplan_json.specs.Objects.{count, counts, instant_object, frequent_count, job_starts, job_members, with_user, job_object, job_objects, moment_object, window_object, date_data, hour_data, day_object}
+use Rattle.cronplan_json.specs.PlanJson.{Told, object_with, plan_object, IsPlanData, IsPlanJson}
+
+integer_whole : (z : ℤ) → is_float (of_integer z) ≡ false
+integer_whole (pos n) = refl
+integer_whole (negsuc n) = refl
+
+counts_whole : (ns : List ℕ) → items_have_float (items_of (map count ns)) ≡ false
+counts_whole [] = refl
+counts_whole (n ∷ ns) = counts_whole ns
+
+instant_whole : (t : ClockTime) → has_float (instant_object t) ≡ false
+instant_whole t = rw (integer_whole t.ahead.seconds, integer_whole t.second) refl
+
+user_whole : (user : List ℕ) (job : Job) (starts : ℕ) (is_frequent : Bool) → members_have_float (with_user user (job_members job starts is_frequent)) ≡ false
+user_whole [] job starts is_frequent = refl
+user_whole (c ∷ cs) job starts is_frequent = refl
+
+job_whole : (job : Job) (starts : ℕ) (is_frequent : Bool) → has_float (job_object job starts is_frequent) ≡ false
+job_whole job starts is_frequent = user_whole job.user.now job starts is_frequent
+
+jobs_whole : (frequent : List Frequent) (starts : List JobStart) (place : ℕ) (jobs : List Job) → items_have_float (items_of (job_objects frequent starts place jobs)) ≡ false
+jobs_whole frequent starts place [] = refl
+jobs_whole frequent starts place (job ∷ jobs) =
+    rw (job_whole job (job_starts frequent starts place) (is_some (frequent_count frequent place))) (jobs_whole frequent starts (suc place) jobs)
+
+own_whole : (f : JobStart → ℕ) (starts : List JobStart) → items_have_float (items_of (map (λ (s : JobStart). count (f s)) starts)) ≡ false
+own_whole f [] = refl
+own_whole f (s ∷ ss) = own_whole f ss
+
+moment_whole : (starts : List JobStart) (s : ShownMoment) → has_float (moment_object starts s) ≡ false
+moment_whole starts s =
+    let starts_then : List JobStart = at_second s.moment.second starts in
+    rw (own_whole (λ (t : JobStart). t.count) starts_then, own_whole (λ (t : JobStart). t.job) starts_then, integer_whole s.at.ahead.seconds, integer_whole s.moment.second) refl
+
+moments_whole : (starts : List JobStart) (shown : List ShownMoment) → items_have_float (items_of (map (moment_object starts) shown)) ≡ false
+moments_whole starts [] = refl
+moments_whole starts (s ∷ ss) = rw (moment_whole starts s) (moments_whole starts ss)
+
+window_whole : (s : ShownWindow) → has_float (window_object s) ≡ false
+window_whole s = rw (instant_whole s.from, instant_whole s.until) refl
+
+windows_whole : (shown : List ShownWindow) → items_have_float (items_of (map window_object shown)) ≡ false
+windows_whole [] = refl
+windows_whole (s ∷ ss) = rw (window_whole s) (windows_whole ss)
+
+hour_whole : (cell : HourCell) → has_float (hour_data cell) ≡ false
+hour_whole cell = at cell.skipped where
+  at : (b : Bool) → has_float (if b then null else count cell.starts) ≡ false
+  at true = refl
+  at false = refl
+
+hours_whole : (cells : List HourCell) → items_have_float (items_of (map hour_data cells)) ≡ false
+hours_whole [] = refl
+hours_whole (cell ∷ cells) = rw (hour_whole cell) (hours_whole cells)
+
+date_whole : (begin : Option CivilDateTime) → has_float (date_data begin) ≡ false
+date_whole None = refl
+date_whole (Some c) = refl
+
+day_whole : (d : WeekDay) → has_float (day_object d) ≡ false
+day_whole d = rw (date_whole d.name.civil, hours_whole d.day.now.hours.items) refl
+
+days_whole : (shown : List WeekDay) → items_have_float (items_of (map day_object shown)) ≡ false
+days_whole [] = refl
+days_whole (d ∷ ds) = rw (day_whole d) (days_whole ds)
+
+plan_whole : (v : View) (told : Told) → has_float (plan_object v told) ≡ false
+plan_whole v told =
+    rw (
+      days_whole told.days,
+      instant_whole told.first,
+      counts_whole told.hours,
+      jobs_whole v.frequent.now v.plan.now.starts.items 0 v.jobs.now,
+      moments_whole v.plan.now.starts.items told.moments,
+      windows_whole told.quiet,
+      instant_whole told.end,
+    ) refl
+
+-- an object with such lists is that of what they tell
+pub with_lists : (v : View) (told : Told) (d days hours moments quiet : Data) → d ≡ object_with v told.first told.end days hours moments quiet
+    → days ≡ array (items_of (map day_object told.days)) → hours ≡ counts told.hours
+    → moments ≡ array (items_of (map (moment_object v.plan.now.starts.items) told.moments)) → quiet ≡ array (items_of (map window_object told.quiet))
+    → d ≡ plan_object v told
+with_lists v told d days hours moments quiet is days_are hours_are moments_are quiet_are =
+    is ∙ rw (days_are, hours_are, moments_are, quiet_are) refl
+
+-- so its text is that of the object
+pub text_of_plan : (v : View) (d : Data) (text : List ℕ) → IsPlanData v d → (has_float d ≡ false → text ≡ compact_text d) → IsPlanJson v text
+text_of_plan v d text is text_is = record {
+  told = is.told;
+  is_told = is.is_told;
+  text_is = text_is (ap has_float is.data_is ∙ plan_whole v is.told) ∙ ap compact_text is.data_is;
+}

@@ -1,0 +1,177 @@
+//! The moments of a plan, the earliest first, with the jobs that start then.
+ghost use Rattle.std.specs.Prelude.{◌≡◌, ◌≤ℤ◌, IfOk, List, int_le, int_lt, map};
+ghost use Rattle.std.specs.List.{All};
+ghost use Rattle.std.specs.List.Sorted.{IsSorted};
+ghost use Rattle.serde_json.specs.Data.{array};
+ghost use Rattle.serde_json.specs.View.{view, items_of};
+ghost use Rattle.croner_base.specs.TableZone.{table_zone};
+ghost use Rattle.cronplan.specs.Moments.{AreMoments, at_second};
+ghost use Rattle.cronplan.specs.Starts.{start_cmp};
+ghost use Rattle.cronplan_forms.specs.Answers.{IsShownMoment};
+ghost use Rattle.cronplan_json.specs.Objects.{count, counts_of, places_of, moment_object, starts_object};
+ghost use Rattle.cronplan_json.specs.PlanJson.{AreShownMoments};
+
+use crate::instants::time_value;
+use croner_base::time::table::ClockTable;
+use cronplan::{JobStart, Moment, Plan};
+use cronplan_forms::{ClockTime, ShownMoment};
+use serde_json::{Value, json};
+use std::alloc::{AllocError, Global};
+
+/// An object for each moment of a plan, the earliest first. The only error is want of memory.
+pub(crate) fn moments_value(
+    alloc: Global,
+    plan: &Plan,
+    table: &ClockTable,
+) -> Result<Value, AllocError>
+    ensures { IfOk result (λ v. (shown : List ShownMoment) × AreShownMoments (table_zone table.now) plan.now shown × (view v ≡ array (items_of (map (moment_object plan.now.starts.items) shown)))) }
+{
+    let moments = moments_of(alloc, plan)?;
+    let shown = shown_moments(alloc, table, moments.as_slice())?;
+    let items = moment_items(alloc, plan.starts.as_slice(), shown.as_slice())?;
+    Ok(Value::Array(items))
+}
+
+// All moments of a plan, the earliest first.
+fn moments_of(alloc: Global, plan: &Plan) -> Result<Vec<Moment>, AllocError>
+    ensures { IfOk result (λ moments. AreMoments plan.now.starts.items moments.items) }
+{
+    let mut moments = plan.fullest(alloc, usize::MAX)?;
+    moments.sort_unstable_by_key(|moment| moment.second);
+    Ok(moments)
+}
+
+// What the clock of a table shows at moments.
+fn shown_moments(
+    alloc: Global,
+    table: &ClockTable,
+    moments: &[Moment],
+) -> Result<Vec<ShownMoment>, AllocError>
+    ensures moments { IfOk result (λ shown. map (λ s. s.moment) shown.items ≡ moments.now) }
+    ensures shown { IfOk result (λ shown. All (IsShownMoment (table_zone table.now)) shown.items) }
+{
+    let mut shown = Vec::new(alloc);
+    for moment in moments {
+        shown.push(shown_moment(table, *moment))?;
+    }
+    Ok(shown)
+}
+
+fn shown_moment(table: &ClockTable, moment: Moment) -> ShownMoment
+    ensures moment { result.moment ≡ moment }
+    ensures shown { IsShownMoment (table_zone table.now) result }
+{
+    ShownMoment {
+        moment,
+        at: ClockTime::at(table, moment.second),
+    }
+}
+
+fn moment_items(
+    alloc: Global,
+    starts: &[JobStart],
+    moments: &[ShownMoment],
+) -> Result<Vec<Value>, AllocError>
+    requires { IsSorted start_cmp starts.now }
+    ensures { IfOk result (λ items. map view items.items ≡ map (moment_object starts.now) moments.now) }
+{
+    let mut items = Vec::new(alloc);
+    for moment in moments {
+        let starts_then = starts_at(starts, moment.moment.second);
+        items.push(moment_object(alloc, starts_then, moment)?)?;
+    }
+    Ok(items)
+}
+
+// Of starts that stand in order, those at a second.
+fn starts_at(starts: &[JobStart], second: i64) -> &[JobStart]
+    requires { IsSorted start_cmp starts.now }
+    ensures { result.now ≡ at_second second starts.now }
+{
+    starts_up_to(starts_from(starts, second), second)
+}
+
+// Of starts that stand in order, those from a second on.
+fn starts_from(starts: &[JobStart], second: i64) -> &[JobStart]
+    requires { IsSorted start_cmp starts.now }
+    ensures order { IsSorted start_cmp result.now }
+    ensures late { All (λ s. second ≤ℤ s.second) result.now }
+    ensures then { at_second second result.now ≡ at_second second starts.now }
+{
+    let count = starts.partition_point(
+        |start: &JobStart| -> bool
+            ensures { result ≡ int_lt start.now.second second }
+        { start.second < second },
+    );
+    starts.split_at(count).1
+}
+
+// Of starts that stand in order, none before a second, those at it.
+fn starts_up_to(starts: &[JobStart], second: i64) -> &[JobStart]
+    requires order { IsSorted start_cmp starts.now }
+    requires late { All (λ s. second ≤ℤ s.second) starts.now }
+    ensures { result.now ≡ at_second second starts.now }
+{
+    let count = starts.partition_point(
+        |start: &JobStart| -> bool
+            ensures { result ≡ int_le start.now.second second }
+        { start.second <= second },
+    );
+    starts.split_at(count).0
+}
+
+// The object of a moment, of which these are all starts.
+fn moment_object(
+    alloc: Global,
+    starts_then: &[JobStart],
+    moment: &ShownMoment,
+) -> Result<Value, AllocError>
+    ensures { IfOk result (λ v. view v ≡ starts_object starts_then.now moment.now) }
+{
+    let (offset, second) = (moment.at.ahead.seconds, moment.moment.second);
+    let starts = moment.moment.starts;
+    json!(in alloc; {
+        "counts": counts_value(alloc, starts_then)?,
+        "jobs": places_value(alloc, starts_then)?,
+        "offset": offset,
+        "second": second,
+        "starts": starts,
+        "time": time_value(alloc, &moment.at)?
+    })
+}
+
+// How many times each job is started.
+fn counts_value(alloc: Global, starts: &[JobStart]) -> Result<Value, AllocError>
+    ensures { IfOk result (λ v. view v ≡ counts_of starts.now) }
+{
+    let items = count_items(alloc, starts)?;
+    Ok(Value::Array(items))
+}
+
+fn count_items(alloc: Global, starts: &[JobStart]) -> Result<Vec<Value>, AllocError>
+    ensures { IfOk result (λ items. map view items.items ≡ map (λ s. count s.count) starts.now) }
+{
+    let mut items = Vec::new(alloc);
+    for start in starts {
+        items.push(Value::from(start.count))?;
+    }
+    Ok(items)
+}
+
+// The places of the jobs.
+fn places_value(alloc: Global, starts: &[JobStart]) -> Result<Value, AllocError>
+    ensures { IfOk result (λ v. view v ≡ places_of starts.now) }
+{
+    let items = place_items(alloc, starts)?;
+    Ok(Value::Array(items))
+}
+
+fn place_items(alloc: Global, starts: &[JobStart]) -> Result<Vec<Value>, AllocError>
+    ensures { IfOk result (λ items. map view items.items ≡ map (λ s. count s.job) starts.now) }
+{
+    let mut items = Vec::new(alloc);
+    for start in starts {
+        items.push(Value::from(start.job))?;
+    }
+    Ok(items)
+}

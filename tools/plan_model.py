@@ -1,0 +1,279 @@
+"""What a plan of crontabs is: a slow model that shares nothing with the library.
+
+What the lines of a crontab are, and when cron starts a job, it has from crontab_model.py: byte by byte by cron's own reader, and by
+cron's main loop. All else is said here from docs/CRONTAB.md ("A plan", "What a plan answers"), over lists of seconds: what a job is
+called; its starts in a span; moments, windows, sets of jobs, hours and dates. A start is the second at which cron starts a job, the
+job's place among those of the plan, and how many times. Seconds are counted from 1970-01-01T00:00:00 UTC, and wall seconds as if the
+zone's clock were UTC's. A span has a first second, and an end, which isn't in it.
+"""
+import datetime
+import functools
+import re
+import unicodedata
+import zoneinfo
+
+import crontab_model
+
+DAY, HOUR = 86_400, 3_600
+MOST_STARTS = 100_000
+ALLOWS = re.compile(rb"[ \t]*#[ \t]*croncheck:[ \t]+allow(?![^ \t])")
+
+
+# ---- jobs
+
+
+class Job:
+    """A job of a plan: what its line is, and what it is called."""
+
+    def __init__(self, file, line, cron, above):
+        self.file, self.line, self.cron = file, line, cron
+        self.label = f"{file}:{line}"
+        self.title = above or title_of_command(cron.command) or cron.schedule
+        self.user, self.times, self.command = cron.user, cron.schedule, cron.command
+
+    def key(self):
+        """What tells it from a job that does something else, or at other times."""
+        return self.user, self.times, self.command
+
+
+class Files:
+    """The files of a call: their jobs, the other lines that a report tells of, and the files that cron ignores as a whole."""
+
+    def __init__(self, contents, is_system):
+        self.jobs, self.apart, self.ignored, self.counts = [], [], [], [0, 0]
+        for name, data in contents:
+            self.take(name, data, is_system)
+
+    def take(self, name, data, is_system):
+        above, refused, lines = b"", 0, crontab_model.lines_of(data)
+        for number, (text, _) in enumerate(lines, 1):
+            kind, what = crontab_model.line_of(text, is_system)
+            if kind == "job" and has_times(what):
+                self.jobs.append(Job(name, number, what, above))
+            elif kind in ("job", "refused") or kind == "setting" and warnings_of(text, is_system):
+                self.apart.append((name, number))
+            refused += kind == "refused"
+            self.counts[0] += kind == "job"
+            if not ALLOWS.match(text):
+                above = title_of_comment(text) if kind == "comment" else b""
+        self.counts[1] += refused
+        is_unfed = bool(lines) and not lines[-1][1] and crontab_model.line_of(lines[-1][0], is_system)[0] not in ("blank", "comment")
+        self.ignored += [name] if refused or is_unfed else []
+
+
+def has_times(cron):
+    """Whether a job has a time at all: it doesn't start with the machine, and each of its fields names something."""
+    if cron.fields is None or not (cron.minutes.values and cron.hours.values and cron.months.values):
+        return False
+    days = bool(cron.days.values), bool(cron.weekdays.values)
+    return all(days) if cron.needs_both else any(days)
+
+
+def warnings_of(text, is_system):
+    """What a report has of a setting."""
+    return crontab_model.warnings_of_line(text, True, is_system, "UTC0", 0)
+
+
+def title_of_comment(text):
+    return text.lstrip(b" \t").lstrip(b"#").strip(b" \t")
+
+
+def title_of_command(command):
+    """The last part of the path of the first word; nothing where it has an equals sign."""
+    word = re.split(rb"[ \t]", command.strip(b" \t"))[0]
+    return b"" if b"=" in word else word.rpartition(b"/")[2] or word
+
+
+# ---- bytes as they are shown
+
+
+def is_unseen(character):
+    """Whether a terminal acts on a character, or nobody sees it, or it turns the order of others."""
+    return unicodedata.category(character) in ("Cc", "Cf", "Zl", "Zp")
+
+
+def shown_character(character, tab):
+    if 0xDC80 <= ord(character) <= 0xDCFF:
+        return f"\\x{ord(character) - 0xDC00:02X}"
+    named = {"\n": "\\n", "\r": "\\r", "\t": tab}
+    return named.get(character) or (f"\\u{{{ord(character):x}}}" if is_unseen(character) else character)
+
+
+def shown(data, tab=" "):
+    """Bytes of a file as they are shown."""
+    return "".join(shown_character(it, tab) for it in data.decode("utf-8", "surrogateescape"))
+
+
+def front(data, most=40):
+    """The first bytes, no character cut, and two dots where there are more."""
+    if len(data) <= most:
+        return shown(data)
+    cut = most
+    while cut and data[cut] & 0xC0 == 0x80:
+        cut -= 1
+    return shown(data[:cut]) + ".."
+
+
+# ---- clocks
+
+
+def second_of(word, zone):
+    """The second at which the zone's clock shows a date and time, of two the earlier, and of a date its first."""
+    return int(datetime.datetime.fromisoformat(word).replace(tzinfo=zoneinfo.ZoneInfo(zone)).timestamp())
+
+
+def is_date(word):
+    return "T" not in word
+
+
+def next_date(word, days=1):
+    return (datetime.date.fromisoformat(word) + datetime.timedelta(days)).isoformat()
+
+
+def span_of(zone, start, until=None):
+    """The span of two words of a call. A date counts whole; another moment is the last second before the span, or in it."""
+    first = second_of(start, zone) + (0 if is_date(start) else 1)
+    if until is None:
+        return first, second_of(next_date(start.partition("T")[0], 7), zone)
+    return first, second_of(next_date(until), zone) if is_date(until) else second_of(until, zone) + 1
+
+
+FOUND = {}
+
+
+def starts_of(job, zone, first, end):
+    """When cron starts a job in a span: seconds, and how many times. What was found of a longer span is taken up."""
+    found = FOUND.setdefault((job.times, zone), [])
+    for since, until, starts in found:
+        if since <= first and end <= until:
+            return [start for start in starts if first <= start[0] < end]
+    clock = crontab_model.Clock(zone, first - 1, end)
+    starts = crontab_model.starts_of(job.cron, clock.spans, first - 1, end - 1)
+    found.append((first, end, starts))
+    return starts
+
+
+# ---- plans
+
+
+class Plan:
+    """The starts of jobs in a span, those at one second by the places of their jobs; and what is left out of it."""
+
+    def __init__(self, jobs, zone, first, end, most_a_day=12):
+        self.jobs, self.zone, self.first, self.end = jobs, zone, first, end
+        self.clock = crontab_model.Clock(zone, first - 1, end)
+        self.starts, self.left_out = [], []
+        for place, job in enumerate(jobs):
+            found = starts_of(job, zone, first, end)
+            if most_a_day is not None and self.most_on_a_date(found) > most_a_day:
+                self.left_out.append((place, min(sum(count for _, count in found), MOST_STARTS + 1)))
+            else:
+                self.starts += [(second, place, count) for second, count in found]
+        self.starts.sort()
+        self.is_cut = len(self.starts) > MOST_STARTS
+        if self.is_cut:
+            self.end = self.starts[MOST_STARTS][0]
+            self.starts = [start for start in self.starts if start[0] < self.end]
+
+    def most_on_a_date(self, found):
+        counts = {}
+        for second, count in found:
+            date = self.wall(second) // DAY
+            counts[date] = counts.get(date, 0) + count
+        return max(counts.values(), default=0)
+
+    def wall(self, second):
+        return self.clock.reads(second)
+
+    def ahead(self, second):
+        return self.clock.offset_at(second)
+
+    def count(self):
+        return sum(count for _, _, count in self.starts)
+
+    def starts_of_job(self, place):
+        return [(second, count) for second, other, count in self.starts if other == place]
+
+    @functools.lru_cache(maxsize=None)
+    def moments(self):
+        """Each second at which something starts, with the jobs and how many times each is started."""
+        found = {}
+        for second, place, count in self.starts:
+            found.setdefault(second, []).append((place, count))
+        return sorted(found.items())
+
+    def fullest(self, most):
+        """Seconds with their number of starts."""
+        counted = [(second, sum(count for _, count in started)) for second, started in self.moments()]
+        return sorted(counted, key=lambda it: (-it[1], it[0]))[:most]
+
+    def hours(self):
+        """How many starts come in each hour of the day."""
+        found = [0] * 24
+        for second, _, count in self.starts:
+            found[self.wall(second) % DAY // HOUR] += count
+        return found
+
+    def windows(self, least):
+        """From when to when nothing starts, how many seconds that is, and whether it may be longer."""
+        sides = [self.first] + [second for second, _ in self.moments()] + [self.end]
+        pairs = list(zip(sides, sides[1:]))
+        found = [(a, b, b - a, at in (0, len(pairs) - 1)) for at, (a, b) in enumerate(pairs) if b - a >= max(least, 1)]
+        return sorted(found, key=lambda it: (-it[2], it[0]))
+
+    def sets(self):
+        """Places of two jobs or more, the number of moments at which just these start, and the first of them."""
+        found = {}
+        for second, started in self.moments():
+            if len(started) > 1:
+                found.setdefault(tuple(place for place, _ in started), []).append(second)
+        return sorted(((places, len(seconds), seconds[0]) for places, seconds in found.items()), key=lambda it: (-it[1], it[2]))
+
+    def dates(self):
+        """The dates of the span, as numbers of days from 1970-01-01."""
+        return range(self.wall(self.first) // DAY, self.wall(self.end - 1) // DAY + 1)
+
+    def whole_dates(self):
+        """Those of which no second lies outside the span."""
+        return range(self.wall(self.first - 1) // DAY + 1, self.wall(self.end) // DAY)
+
+    @functools.lru_cache(maxsize=None)
+    def hours_of_date(self, date):
+        """How many starts there are in each hour of a date. Of one that the clock skips as a whole, within the span, there is nothing."""
+        found = [None if self.is_skipped(date * DAY + hour * HOUR) else 0 for hour in range(24)]
+        for second, _, count in self.starts:
+            if self.wall(second) // DAY == date:
+                found[self.wall(second) % DAY // HOUR] += count
+        return found
+
+    def is_skipped(self, begin):
+        return any(before <= begin and begin + HOUR <= after for _, before, after, _ in self.changes())
+
+    def times_shown(self, begin):
+        """How many times the clock shows the minutes of an hour, of those that it shows."""
+        tried = [[self.wall(wall - offset) == wall for offset in self.clock.offsets] for wall in range(begin, begin + HOUR, 60)]
+        return {sum(shown) for shown in tried if any(shown)}
+
+    def is_shown_twice(self, date, hour):
+        return 2 in self.times_shown(date * DAY + hour * HOUR)
+
+    def fullest_of_date(self, date):
+        on_it = [it for it in self.fullest(None) if self.wall(it[0]) // DAY == date]
+        return on_it[0] if on_it else None
+
+    def changes(self):
+        """The changes of the clock in the span: the second, the wall second that would follow, the one that is shown, and the starts then."""
+        inside = [it for it in self.clock.changes() if self.first <= it[0] < self.end]
+        return [(*it, sum(count for second, _, count in self.starts if second == it[0])) for it in inside]
+
+    def jobs_of_date(self, date):
+        """The places of the jobs that start on a date, in the order of their first starts there."""
+        return list(dict.fromkeys(place for second, place, _ in self.starts if self.wall(second) // DAY == date))
+
+    def daily_jobs(self):
+        """The places of the jobs that start on each whole date, where there are two such dates or more, in the order of their first starts."""
+        dates = self.whole_dates()
+        if len(dates) < 2:
+            return []
+        jobs = {date: self.jobs_of_date(date) for date in dates}
+        return [place for place in dict.fromkeys(place for _, place, _ in self.starts) if all(place in jobs[date] for date in dates)]
