@@ -185,7 +185,7 @@ impl CronComponent {
         ensures { result ≡ self.now }
     {
         CronComponent {
-            marks: self.marks.copied_in_place(self.alloc),
+            marks: self.marks.copy_in_place(self.alloc),
             min: self.min,
             step: self.step,
             from_wildcard: self.from_wildcard,
@@ -553,7 +553,7 @@ impl Clone for CronComponent {
     #[inline(always)]
     fn clone(&self) -> Result<CronComponent, AllocError> {
         Ok(CronComponent {
-            marks: self.marks.copied(self.alloc)?,
+            marks: self.marks.copy(self.alloc)?,
             min: self.min,
             step: self.step,
             from_wildcard: self.from_wildcard,

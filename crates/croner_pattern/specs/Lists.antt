@@ -13,13 +13,13 @@ last_of item [] = item
 last_of item (next ∷ more) = last_of next more
 
 -- texts joined by another between each two of them
-abbrev pub each_behind : List ℕ → List (List ℕ) → List ℕ
-each_behind between [] = []
-each_behind between (item ∷ more) = between ++ (item ++ each_behind between more)
+abbrev pub each_after : List ℕ → List (List ℕ) → List ℕ
+each_after between [] = []
+each_after between (item ∷ more) = between ++ (item ++ each_after between more)
 
 abbrev pub joined : List ℕ → List (List ℕ) → List ℕ
 joined between [] = []
-joined between (item ∷ more) = item ++ each_behind between more
+joined between (item ∷ more) = item ++ each_after between more
 
 -- none is the empty text, one is itself, two are joined by the language's word, and more are joined by commas, with a comma
 -- and the word before the last

@@ -69,10 +69,10 @@ filled-before xs a zero bits v h = refl
 filled-before xs a (suc n) bits v h =
     filled-before (set xs a (bit_or (get_or xs a 0) bits)) (a + 1) n bits v (omega arith) ∙ get_or-set_other xs a v _ 0 (λ e. absurd (omega arith))
 
-filled-behind : (xs : List ℕ) (a n bits v : ℕ) → a + n ≤ v → get_or (filled xs a n bits) v 0 ≡ get_or xs v 0
-filled-behind xs a zero bits v h = refl
-filled-behind xs a (suc n) bits v h =
-    filled-behind (set xs a (bit_or (get_or xs a 0) bits)) (a + 1) n bits v (omega arith) ∙ get_or-set_other xs a v _ 0 (λ e. absurd (omega arith))
+filled-after : (xs : List ℕ) (a n bits v : ℕ) → a + n ≤ v → get_or (filled xs a n bits) v 0 ≡ get_or xs v 0
+filled-after xs a zero bits v h = refl
+filled-after xs a (suc n) bits v h =
+    filled-after (set xs a (bit_or (get_or xs a 0) bits)) (a + 1) n bits v (omega arith) ∙ get_or-set_other xs a v _ 0 (λ e. absurd (omega arith))
 
 filled-inside : (xs : List ℕ) (a n bits v : ℕ) → a ≤ v → v < a + n → v < length xs → get_or (filled xs a n bits) v 0 ≡ bit_or (get_or xs v 0) bits
 filled-inside xs a zero bits v h i l = absurd (omega arith)
@@ -90,7 +90,7 @@ gained-filled : (f : Field) (old new : Marked) (bits a n b : ℕ) → old.marks 
 gained-filled f old new bits a n b is g end here = ext_get_or 0 _ _ (length-filled f.marks a n bits ∙ sym (g.length ∙ ap length is)) (λ v lt. elim (cases_lt v a) [
   | inl low ↦ filled-before f.marks a n bits v low ∙ sym (g.below v low ∙ ap (λ xs. get_or xs v 0) is)
   | inr from ↦ elim (cases_lt b v) [
-    | inl high ↦ filled-behind f.marks a n bits v (omega arith) ∙ sym (g.above v high ∙ ap (λ xs. get_or xs v 0) is)
+    | inl high ↦ filled-after f.marks a n bits v (omega arith) ∙ sym (g.above v high ∙ ap (λ xs. get_or xs v 0) is)
     | inr to ↦ filled-inside f.marks a n bits v (omega arith) (omega arith) (omega arith) ∙ sym (g.inside v (omega arith) (omega arith) ∙ ap (λ xs. bit_or (get_or xs v 0) bits) is)
   ]
 ])

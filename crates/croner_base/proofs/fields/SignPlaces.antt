@@ -11,7 +11,7 @@ use Rattle.croner_base.specs.declared.component.text.Sign.{Sign}
 use Rattle.croner_base.specs.declared.component.text.Sign.TheVariants.{Hash, Dash, Slash, LetterL, LetterW}
 use Rattle.croner_base.specs.declared.component.text.Signs.{Signs}
 use Rattle.croner_base.specs.Part.{contains_byte}
-use Rattle.croner_base.specs.Private.Signs.{AreSigns, all_at, byte_of, met, place_of, up_to}
+use Rattle.croner_base.specs.Private.Signs.{AreSigns, all_at, byte_of, with_byte, place_of, places_up_to}
 use Rattle.croner_base.proofs.fields.TextPieces.{position_of_contains, position_of_none}
 
 abbrev is_sign : Sign → ℕ → Bool
@@ -79,14 +79,14 @@ place_take sign bs end fits =
           ∙ sym (ap (λ b. cond b (place_in sign bs) end) (le-ltb (place_in sign bs) end h))
     ]
 
-place_up_to : (sign : Sign) (s : Signs) (end : ℕ) → place_of (up_to s end) sign ≡ cond (ltb (place_of s sign) end) (place_of s sign) end
+place_up_to : (sign : Sign) (s : Signs) (end : ℕ) → place_of (places_up_to s end) sign ≡ cond (ltb (place_of s sign) end) (place_of s sign) end
 place_up_to Hash s end = refl
 place_up_to Dash s end = refl
 place_up_to Slash s end = refl
 place_up_to LetterL s end = refl
 place_up_to LetterW s end = refl
 
-pub signs-front : (bs : List ℕ) (s : Signs) (cut : Sign) → AreSigns bs s → AreSigns (take (place_of s cut) bs) (up_to s (place_of s cut))
+pub signs-front : (bs : List ℕ) (s : Signs) (cut : Sign) → AreSigns bs s → AreSigns (take (place_of s cut) bs) (places_up_to s (place_of s cut))
 signs-front bs s cut h = λ sign.
     let end : ℕ = place_of s cut in
     let fits : end ≤ length bs = subst (λ n. n ≤ length bs) (sym (h cut)) (place_within cut bs) in
@@ -104,7 +104,7 @@ all_places LetterW at = omega arith
 pub signs-end : (bs : List ℕ) → SignsFrom bs (length bs) (all_at (length bs))
 signs-end bs = λ sign. all_places sign (length bs) ∙ sym (ap (λ xs. length bs + place_in sign xs) (drop_of_length-le bs {i = length bs} (omega arith)))
 
-place_met : (sign : Sign) (s : Signs) (byte at : ℕ) → place_of (met s byte at) sign ≡ cond (eqb byte (byte_of sign)) at (place_of s sign)
+place_met : (sign : Sign) (s : Signs) (byte at : ℕ) → place_of (with_byte s byte at) sign ≡ cond (eqb byte (byte_of sign)) at (place_of s sign)
 place_met Hash s byte at = refl
 place_met Dash s byte at = refl
 place_met Slash s byte at = refl
@@ -115,8 +115,8 @@ next_by : (b : Bool) (at n : ℕ) → cond b at (at + 1 + n) ≡ at + cond (not 
 next_by true at n = omega arith
 next_by false at n = omega arith
 
-pub signs-met : (bs : List ℕ) (at : ℕ) (s : Signs) → at < length bs → SignsFrom bs (at + 1) s → SignsFrom bs at (met s (get_or bs at 0) at)
-signs-met bs at s within h = λ sign.
+pub signs-with_byte : (bs : List ℕ) (at : ℕ) (s : Signs) → at < length bs → SignsFrom bs (at + 1) s → SignsFrom bs at (with_byte s (get_or bs at 0) at)
+signs-with_byte bs at s within h = λ sign.
     place_met sign s (get_or bs at 0) at
     ∙ ap (λ n. cond (is_sign sign (get_or bs at 0)) at n) (h sign)
     ∙ next_by (is_sign sign (get_or bs at 0)) at (place_in sign (drop (at + 1) bs))

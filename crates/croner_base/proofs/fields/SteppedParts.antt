@@ -14,8 +14,8 @@ marks_last old new answer step false marks h = record { answer = h.answer; state
 marks_last old new answer step true marks h = record { answer = h.answer; state = h.state }
 
 -- of a step that isn't 0
-pub marks_behind_step : (old new : Field) (answer : Result (Unit {0}) CronError) (left : List ℕ) (step tag : ℕ) → eqb step 0 ≡ false → Reads (stepped_from old.shape left step tag) (with_step old step (is_starred old.shape left)) new answer → Reads (stepped_by old.shape left step tag) old new answer
-marks_behind_step old new answer left step tag h reads =
+pub marks_after_step : (old new : Field) (answer : Result (Unit {0}) CronError) (left : List ℕ) (step tag : ℕ) → eqb step 0 ≡ false → Reads (stepped_from old.shape left step tag) (with_step old step (is_starred old.shape left)) new answer → Reads (stepped_by old.shape left step tag) old new answer
+marks_after_step old new answer left step tag h reads =
     subst (λ x. Reads x old new answer)
     (sym (ap (λ b. ((did (steps step) then wants (not b) nothing) then cond (is_starred old.shape left) (did stars) nothing) then stepped_from old.shape left step tag) h))
     (marks_last old new answer step (is_starred old.shape left) _ reads)

@@ -9,7 +9,7 @@ use Rattle.croner_base.specs.Table.{are_changes, offset_at}
 use Rattle.croner_base.specs.TableZone.{clock, table_zone}
 use Rattle.croner_base.proofs.tables.TableCalm.{IsOffsetChange, place, at_change}
 use Rattle.croner_base.proofs.tables.TableCheck.{first_change, calm_parts}
-use Rattle.croner_base.proofs.tables.TableReadings.{passed, behind}
+use Rattle.croner_base.proofs.tables.TableReadings.{passed, apart_after}
 use Rattle.croner_base.proofs.tables.TableTests.{step_moves}
 
 -- no change of the list lies at an instant
@@ -39,7 +39,7 @@ listed_moves o (c ∷ cs) zero d h within = moves_there o c cs h
 listed_moves o (c ∷ []) (suc k) d h within = absurd (omega (arith, within))
 listed_moves o (c ∷ e ∷ es) (suc k) d h within =
     let f = first_change o c (e ∷ es) h in
-    let far = behind c (e ∷ es) k d (omega (arith, within)) f.apart f.rest in
+    let far = apart_after c (e ∷ es) k d (omega (arith, within)) f.apart f.rest in
     moves_later o c (e ∷ es) (get_or (e ∷ es) k d).0 (omega (arith, ints, far)) (listed_moves c.1 (e ∷ es) k d f.rest (omega (arith, within)))
 
 plain_change : (i x y : ℤ) → x ≡ y → i +ℤ x ≡ ((i -ℤ pos 1) +ℤ y) +ℤ pos 1

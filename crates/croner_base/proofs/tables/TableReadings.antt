@@ -15,13 +15,13 @@ use Rattle.croner_base.proofs.tables.TableOffsets.{offset_within, stays}
 use Rattle.croner_base.proofs.tables.TableTests.{lt_of, le_of, le_test, le_false, lt_test, lt_false, lt_tells, offset_bounds}
 
 -- the others lie after the first change
-pub behind : (c : ℤ × ℤ) (cs : List (ℤ × ℤ)) (j : ℕ) (d : ℤ × ℤ) → j < length cs → is_apart c cs ≡ true → are_changes c.1 cs ≡ true → c.0 <ℤ (get_or cs j d).0
-behind c [] j d lt a h = absurd (omega arith)
-behind c (e ∷ es) zero d lt a h = let l = lt_of (c.0 +ℤ pos apart_limit) e.0 a in omega (arith, signed_arith, l)
-behind c (e ∷ es) (suc j) d lt a h =
+pub apart_after : (c : ℤ × ℤ) (cs : List (ℤ × ℤ)) (j : ℕ) (d : ℤ × ℤ) → j < length cs → is_apart c cs ≡ true → are_changes c.1 cs ≡ true → c.0 <ℤ (get_or cs j d).0
+apart_after c [] j d lt a h = absurd (omega arith)
+apart_after c (e ∷ es) zero d lt a h = let l = lt_of (c.0 +ℤ pos apart_limit) e.0 a in omega (arith, signed_arith, l)
+apart_after c (e ∷ es) (suc j) d lt a h =
     let l = lt_of (c.0 +ℤ pos apart_limit) e.0 a in
     let f = first_change c.1 e es h in
-    let r = behind e es j d (omega arith) f.apart f.rest in
+    let r = apart_after e es j d (omega arith) f.apart f.rest in
     omega (arith, signed_arith, l, r)
 
 ascending : (o : ℤ) (cs : List (ℤ × ℤ)) (i j : ℕ) (d : ℤ × ℤ) → i ≤ j → j < length cs → are_changes o cs ≡ true → (get_or cs i d).0 ≤ℤ (get_or cs j d).0
@@ -29,7 +29,7 @@ ascending o [] i j d le lt h = absurd (omega arith)
 ascending o (c ∷ cs) zero zero d le lt h = omega (arith, signed_arith)
 ascending o (c ∷ cs) zero (suc j) d le lt h =
     let f = first_change o c cs h in
-    let r = behind c cs j d (omega arith) f.apart f.rest in
+    let r = apart_after c cs j d (omega arith) f.apart f.rest in
     omega (arith, signed_arith, r)
 ascending o (c ∷ cs) (suc i) zero d le lt h = absurd (omega arith)
 ascending o (c ∷ cs) (suc i) (suc j) d le lt h = ascending c.1 cs i j d (omega arith) (omega arith) (first_change o c cs h).rest

@@ -28,8 +28,8 @@ abbrev pub all_at : ℕ → Signs
 all_at at = record { hash = at; dash = at; slash = at; letter_l = at; letter_w = at }
 
 -- the places once a byte is met at a place in front of them
-abbrev pub met : Signs → ℕ → ℕ → Signs
-met s byte at = record {
+abbrev pub with_byte : Signs → ℕ → ℕ → Signs
+with_byte s byte at = record {
   hash = if byte == hash then at else s.hash;
   dash = if byte == dash then at else s.dash;
   slash = if byte == slash then at else s.slash;
@@ -38,8 +38,8 @@ met s byte at = record {
 }
 
 -- the places in the front of a text
-abbrev pub up_to : Signs → ℕ → Signs
-up_to s end = record {
+abbrev pub places_up_to : Signs → ℕ → Signs
+places_up_to s end = record {
   hash = if nat_lt s.hash end then s.hash else end;
   dash = if nat_lt s.dash end then s.dash else end;
   slash = if nat_lt s.slash end then s.slash else end;

@@ -12,7 +12,7 @@ ghost use Rattle.croner_base.specs.Private.words.Word.{word_bits};
 use std::alloc::{AllocError, Global};
 use std::fmt;
 use std::marker::Model;
-use words::{ALL_ROWS, MODIFIERS, Shown, WORD_BITS, copied_words, same_words};
+use words::{ALL_ROWS, MODIFIERS, Shown, WORD_BITS, copy_words, same_words};
 
 mod compare;
 mod count;
@@ -112,14 +112,14 @@ impl Marks {
 
     /// The same marks, in memory of the allocator; none is taken where a row has one word.
     #[inline(always)]
-    pub fn copied(&self, alloc: Global) -> Result<Self, AllocError>
+    pub fn copy(&self, alloc: Global) -> Result<Self, AllocError>
         ensures value { IfOk result (λ copy. copy ≡ self.now) }
         ensures in_place { width self.now.max ≡ 1 → IsOk result }
     {
         if self.is_in_place {
-            return Ok(self.copied_in_place(alloc));
+            return Ok(self.copy_in_place(alloc));
         }
-        let on_heap = copied_words(alloc, &self.on_heap)?;
+        let on_heap = copy_words(alloc, &self.on_heap)?;
         Ok(Marks {
             in_place: same_words(&self.in_place),
             on_heap,
@@ -131,7 +131,7 @@ impl Marks {
 
     /// The same marks, where the words stand in place. Takes no memory.
     #[inline(always)]
-    pub fn copied_in_place(&self, alloc: Global) -> Self
+    pub fn copy_in_place(&self, alloc: Global) -> Self
         requires { width self.now.max ≡ 1 }
         ensures { result ≡ self.now }
     {

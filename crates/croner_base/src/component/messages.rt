@@ -97,7 +97,7 @@ impl CronComponent {
 
     #[cold]
     #[inline(never)]
-    pub(super) fn not_once(&self, sign: char, part: &str) -> CronError
+    pub(super) fn sign_not_once(&self, sign: char, part: &str) -> CronError
         ensures { IsFieldError result }
     {
         let part = Excerpt::of(part);

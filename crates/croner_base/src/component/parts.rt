@@ -152,7 +152,7 @@ impl CronComponent {
     }
 
     // What a part does, by the text to the left of its `/` and the number to the right.
-    #[tactic(auto, using(crate::proofs::fields::SteppedParts::marks_behind_step))]
+    #[tactic(auto, using(crate::proofs::fields::SteppedParts::marks_after_step))]
     fn handle_sides(
         &mut self,
         left: &Part<'_>,
@@ -264,7 +264,7 @@ impl CronComponent {
                 return Ok((head.before(sign), right));
             }
         }
-        Err(self.not_once(sign.character(), part))
+        Err(self.sign_not_once(sign.character(), part))
     }
 
     fn is_starred(&self, left: &str) -> bool

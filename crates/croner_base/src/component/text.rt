@@ -3,7 +3,7 @@
 ghost use Rattle.std.specs.Prelude.{◌≡◌, ◌<◌, ◌==◌, nat_lt, if◌then◌else◌};
 ghost use Rattle.std.specs.List.{before_first, after_first};
 ghost use Rattle.croner_base.specs.Part.{number_of, contains_byte, ends_in_l};
-ghost use Rattle.croner_base.specs.Private.Signs.{AreSigns, IsForm, all_at, byte_of, met, place_of, up_to};
+ghost use Rattle.croner_base.specs.Private.Signs.{AreSigns, IsForm, all_at, byte_of, with_byte, place_of, places_up_to};
 
 use std::marker::Model;
 
@@ -70,8 +70,8 @@ impl Signs {
 
     /// The place of each sign once one more byte, at a place, is put in front of the text.
     #[inline(always)]
-    fn met(self, byte: u8, at: usize) -> Signs
-        ensures { result ≡ met self byte at }
+    fn with_byte(self, byte: u8, at: usize) -> Signs
+        ensures { result ≡ with_byte self byte at }
     {
         Signs {
             hash: met_at(byte, b'#', at, self.hash),
@@ -84,15 +84,15 @@ impl Signs {
 
     /// The places within the beginning of a text, up to an end.
     #[inline(always)]
-    fn up_to(self, end: usize) -> Signs
-        ensures { result ≡ up_to self end }
+    fn places_up_to(self, end: usize) -> Signs
+        ensures { result ≡ places_up_to self end }
     {
         Signs {
-            hash: lesser(self.hash, end),
-            dash: lesser(self.dash, end),
-            slash: lesser(self.slash, end),
-            letter_l: lesser(self.letter_l, end),
-            letter_w: lesser(self.letter_w, end),
+            hash: lesser_place(self.hash, end),
+            dash: lesser_place(self.dash, end),
+            slash: lesser_place(self.slash, end),
+            letter_l: lesser_place(self.letter_l, end),
+            letter_w: lesser_place(self.letter_w, end),
         }
     }
 
@@ -118,7 +118,7 @@ fn met_at(byte: u8, sign: u8, at: usize, place: usize) -> usize
 }
 
 #[inline(always)]
-fn lesser(place: usize, end: usize) -> usize
+fn lesser_place(place: usize, end: usize) -> usize
     ensures { result ≡ (if nat_lt place end then place else end) }
 {
     if place < end { place } else { end }
@@ -132,7 +132,7 @@ fn signs_of(text: &[u8]) -> Signs
     let mut signs = Signs::all_at(at);
     while at > 0 {
         at -= 1;
-        signs = signs.met(text[at], at);
+        signs = signs.with_byte(text[at], at);
     }
     signs
 }
@@ -185,7 +185,7 @@ impl<'t> Part<'t> {
         let end = self.signs.place(sign);
         Part {
             text: &self.text[..end],
-            signs: self.signs.up_to(end),
+            signs: self.signs.places_up_to(end),
         }
     }
 

@@ -251,7 +251,7 @@ impl<'t> TableTime<'t> {
     }
 
     // The seconds at which the clock reads a wall second.
-    fn resolved(&self, wall: i64) -> Resolution<TableTime<'t>>
+    fn resolution_of(&self, wall: i64) -> Resolution<TableTime<'t>>
         requires low { first_resolved ≤ℤ wall }
         requires high { wall ≤ℤ last_resolved }
         ensures value { seconds_of result ≡ instants_of self.now.table.now.first_offset self.now.table.now.changes.items wall }
@@ -266,12 +266,12 @@ impl<'t> TableTime<'t> {
             return Resolution::Single(by_old);
         }
         let by_new = self.by_offset_past(passed + 1, wall);
-        Self::around(self.table.instant_of(passed), by_old, by_new)
+        Self::resolution_near_change(self.table.instant_of(passed), by_old, by_new)
     }
 
     // The seconds near a change at which the clock reads a wall second: the one by the offset before the change, if
     // it lies before the change, and the one by the offset after it, if it doesn't.
-    fn around(
+    fn resolution_near_change(
         change: i64,
         by_old: TableTime<'t>,
         by_new: TableTime<'t>,
@@ -301,11 +301,11 @@ impl<'t> TableTime<'t> {
         ensures second { result.second ≡ wall -ℤ offset_past self.now.table.now.first_offset self.now.table.now.changes.items count }
         ensures table { result.table.now ≡ self.now.table.now }
     {
-        self.at(wall - self.table.offset_past(count))
+        self.time_at(wall - self.table.offset_past(count))
     }
 
     // Another second on the same clock.
-    fn at(&self, second: i64) -> TableTime<'t>
+    fn time_at(&self, second: i64) -> TableTime<'t>
         requires { IsTrue (Spec.is_table_second second) }
         ensures second { result.second ≡ second }
         ensures table { result.table.now ≡ self.now.table.now }
@@ -350,7 +350,7 @@ impl<'t> CronDateTime for TableTime<'t> {
         if civil.year() < -YEAR_LIMIT || civil.year() > YEAR_LIMIT {
             return Err(CronError::InvalidDate);
         }
-        Ok(self.resolved(civil.wall_second()))
+        Ok(self.resolution_of(civil.wall_second()))
     }
 
     #[tactic(auto, using(crate::proofs::tables::TableReadings::offsets), unfolding(crate::specs::TableZone::clock))]
@@ -364,7 +364,7 @@ impl<'t> CronDateTime for TableTime<'t> {
             None => return Ok(None),
         };
         if is_instant(sum) {
-            Ok(Some(self.at(sum)))
+            Ok(Some(self.time_at(sum)))
         } else {
             Ok(None)
         }

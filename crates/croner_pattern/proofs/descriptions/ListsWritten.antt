@@ -5,7 +5,7 @@ use Rattle.std.proofs.lemmas.Bool.Decides.{nat_tests}
 use Rattle.std.proofs.lemmas.List.{at_drop_more, append-nil, length-drop, length-map, get_or-map}
 use Rattle.std.proofs.Math.Nat.{mod-lt}
 use Rattle.croner_pattern.specs.Description.{cyclic_name}
-use Rattle.croner_pattern.specs.Lists.{but_last, last_of, each_behind, joined, text_list}
+use Rattle.croner_pattern.specs.Lists.{but_last, last_of, each_after, joined, text_list}
 use Rattle.croner_pattern.specs.Private.Lists.{is_empty, separator, comma, from_place}
 
 is_empty-length : {X : Type 0} (xs : List X) → is_empty xs ≡ eqb (length xs) 0
@@ -40,7 +40,7 @@ not_place place k h = grind (arith, nat_tests)
 
 -- from the third item on
 from_third : (and item : List ℕ) (more : List (List ℕ)) (place : ℕ) → 1 < place
-    → from_place (separator and) place (item ∷ more) ≡ each_behind (codes ", ") (but_last item more) ++ (codes ", " ++ (and ++ (codes " " ++ last_of item more)))
+    → from_place (separator and) place (item ∷ more) ≡ each_after (codes ", ") (but_last item more) ++ (codes ", " ++ (and ++ (codes " " ++ last_of item more)))
 from_third and item [] place h =
     let zero = not_place place 0 (omega arith) in
     let one = not_place place 1 h in
@@ -62,7 +62,7 @@ text_list-from_place and (one ∷ two ∷ three ∷ more) =
 pub text_list-begun : (and text : List ℕ) (items : List (List ℕ)) → text ≡ [] → text ++ from_place (separator and) 0 (drop 0 items) ≡ text_list and items
 text_list-begun and text items e = rw e (sym (text_list-from_place and items))
 
-from_second : (items : List (List ℕ)) (place : ℕ) → 0 < place → from_place comma place items ≡ each_behind (codes ", ") items
+from_second : (items : List (List ℕ)) (place : ℕ) → 0 < place → from_place comma place items ≡ each_after (codes ", ") items
 from_second [] place h = refl
 from_second (item ∷ more) place h =
     let zero = not_place place 0 h in

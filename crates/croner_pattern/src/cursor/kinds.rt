@@ -78,7 +78,7 @@ fn kinds_of_length(months: u32, length: u32) -> u32
 
 // The bits of a week, each moved that many weekdays earlier.
 #[tactic(auto, using(crate::proofs::civil::MonthKinds::week_turned, std::proofs::lemmas::Nat::and_le_r))]
-fn turned(week: u32, days: u32) -> u32
+fn turn_week(week: u32, days: u32) -> u32
     requires week { week < 128 }
     requires days { days < 7 }
     ensures value { (weekday : ℕ) → weekday < 7 → bit_at result weekday ≡ bit_at week ((weekday + days) % 7) }
@@ -87,7 +87,7 @@ fn turned(week: u32, days: u32) -> u32
     (week | week << DAYS_PER_WEEK) >> days & WEEK_BITS
 }
 
-fn like_year(leap: bool) -> i32
+fn example_year(leap: bool) -> i32
     ensures { is_leap_year result ≡ leap }
 {
     if leap { LEAP_YEAR } else { COMMON_YEAR }
@@ -100,9 +100,9 @@ fn open_beginnings(months: u32, month: u32, leap: bool) -> u32
         → (bit_at result (first_weekday year 1) ≡ 1) ↔ HasOpenDay m (days_in_month year month) (first_weekday year month) }
     ensures bound { result < 128 }
 {
-    let year = like_year(leap);
+    let year = example_year(leap);
     let week = kinds_of_length(months, days_in_month(year, month));
-    turned(week, (day_of_year(year, month, 1) - 1) % DAYS_PER_WEEK)
+    turn_week(week, (day_of_year(year, month, 1) - 1) % DAYS_PER_WEEK)
 }
 
 // Which kinds of year have a day that matches in the month, one bit a kind.

@@ -101,10 +101,10 @@ impl CronPattern {
     {
         let day_fits = fits_days(&self.days, length, first, day)?;
         let weekday_fits = fits_weekdays(&self.days_of_week, length, first, day)?;
-        Ok(self.joined(day_fits, weekday_fits))
+        Ok(self.joins_days(day_fits, weekday_fits))
     }
 
-    fn joined(&self, day: bool, weekday: bool) -> bool
+    fn joins_days(&self, day: bool, weekday: bool) -> bool
         ensures { result ≡ are_joined (meaning_of self.now).star_day (meaning_of self.now).star_weekday (meaning_of self.now).and day weekday }
     {
         if self.star_day != self.star_weekday {
@@ -261,11 +261,11 @@ fn goes_to(length: u32, first: u32, target: u32, day: u32) -> bool
     requires day { IsInRange 1 length day }
     ensures { result ≡ is_nearest length first target day }
 {
-    day == resolved(length, target, weekday_of(first, target))
+    day == nearest_working_day(length, target, weekday_of(first, target))
 }
 
 /// The nearest Monday-to-Friday day of a target with this weekday. It stays in the month.
-fn resolved(length: u32, target: u32, weekday: u32) -> u32
+fn nearest_working_day(length: u32, target: u32, weekday: u32) -> u32
     requires length { IsInRange 28 31 length }
     requires target { IsInRange 1 length target }
     ensures value { result ≡ resolved_day length weekday target }

@@ -22,11 +22,11 @@ impl Marks {
         ensures { result ≡ length (marked_from first bits self.now) }
     {
         if width(self.max) == 1 && first < WORD_BITS {
-            return self.marked(first, bits, 0).count_ones() as usize;
+            return self.values_marked_from(first, bits, 0).count_ones() as usize;
         }
         let mut count = 0;
         for i in usize::from(first / WORD_BITS)..width(self.max) {
-            count += self.marked(first, bits, i).count_ones() as usize;
+            count += self.values_marked_from(first, bits, i).count_ones() as usize;
         }
         count
     }
@@ -38,7 +38,7 @@ impl Marks {
     {
         let mut values = Vec::with_capacity(alloc, self.count_from(first, bits))?;
         for i in usize::from(first / WORD_BITS)..width(self.max) {
-            push_values(&mut values, self.marked(first, bits, i), i)?;
+            push_values(&mut values, self.values_marked_from(first, bits, i), i)?;
         }
         Ok(values)
     }
@@ -51,23 +51,23 @@ impl Marks {
         if self.max() == 0 {
             return 0;
         }
-        self.marked(0, bits, 0)
+        self.values_marked_from(0, bits, 0)
     }
 
     // The values of word `i`, from the given one on, that have one of the modifiers of `bits`.
     #[inline(always)]
     #[tactic(auto, using(crate::proofs::words::Counting::shows_from))]
-    fn marked(&self, first: u16, bits: u8, i: usize) -> u64
+    fn values_marked_from(&self, first: u16, bits: u8, i: usize) -> u64
         requires here { i < width self.now.max }
         requires from { first / word_bits ≤ i }
         ensures { ShowsFrom self.now bits first i result }
     {
-        self.any(bits, i) & mask_from(first, i) & mask_to(self.max, i)
+        self.values_with_any(bits, i) & mask_from(first, i) & mask_to(self.max, i)
     }
 
     /// The values of word `i` that have one of the modifiers of `bits`. Bits past the maximum say nothing.
     #[inline(always)]
-    pub(super) fn any(&self, bits: u8, i: usize) -> u64
+    pub(super) fn values_with_any(&self, bits: u8, i: usize) -> u64
         requires { i < width self.now.max }
         ensures { ShowsMarked self.now bits i result }
     {
@@ -75,9 +75,9 @@ impl Marks {
             return self.word(0, i);
         }
         if self.is_in_place {
-            rows::any(&self.in_place, self.max, ALL_ROWS, bits, i)
+            rows::values_with_any(&self.in_place, self.max, ALL_ROWS, bits, i)
         } else {
-            rows::any(&self.on_heap, self.max, self.supported, bits, i)
+            rows::values_with_any(&self.on_heap, self.max, self.supported, bits, i)
         }
     }
 }

@@ -94,7 +94,7 @@ fn turn(words: &mut [u64], max: u16, supported: u8, k: u8, value: u16, on: bool)
 
 /// The values of word `i` that have one of the modifiers of `bits`. Bits past the maximum say nothing.
 #[inline(always)]
-pub fn any(words: &[u64], max: u16, supported: u8, bits: u8, i: usize) -> u64
+pub fn values_with_any(words: &[u64], max: u16, supported: u8, bits: u8, i: usize) -> u64
     requires within { i < width max }
     requires rows { length words.now ≡ rows_below supported 8 * width max }
     ensures { ShowsMarked (marks_in words.now max supported) bits i result }

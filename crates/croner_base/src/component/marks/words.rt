@@ -31,18 +31,18 @@ pub fn same_words(words: &[u64; MODIFIERS]) -> [u64; MODIFIERS]
 
 /// The same words, in memory of the allocator; no word takes none.
 #[inline(always)]
-pub fn copied_words(alloc: Global, words: &[u64]) -> Result<Vec<u64>, AllocError>
+pub fn copy_words(alloc: Global, words: &[u64]) -> Result<Vec<u64>, AllocError>
     ensures { IfOk result (λ copy. copy.items ≡ words.now) }
 {
     if words.is_empty() {
         return Ok(Vec::new(alloc));
     }
-    copied_to_heap(alloc, words)
+    copy_to_heap(alloc, words)
 }
 
 // Apart, so that the clone of a field in place doesn't contain its code.
 #[inline(never)]
-fn copied_to_heap(alloc: Global, words: &[u64]) -> Result<Vec<u64>, AllocError>
+fn copy_to_heap(alloc: Global, words: &[u64]) -> Result<Vec<u64>, AllocError>
     ensures { IfOk result (λ copy. copy.items ≡ words.now) }
 {
     Vec::from_slice(alloc, words)

@@ -17,7 +17,7 @@ use std::cmp::Ordering;
 
 // What the zone's clock shows at the whole second. A rule may change its clock inside the last
 // second of a year, so the fraction is taken off first.
-fn shown(zoned: &Zoned<'_>) -> DateTime
+fn shown_date_time(zoned: &Zoned<'_>) -> DateTime
     ensures { civil_seconds result ≡ reading (value_moment zoned.now) }
 {
     let second = zoned.timestamp().to_plain().floor_second();
@@ -28,7 +28,7 @@ fn shown(zoned: &Zoned<'_>) -> DateTime
 }
 
 // Those of two instants at which their clock shows the date-time: each once, the earlier first.
-fn showing<'a>(datetime: DateTime, one: Zoned<'a>, other: Zoned<'a>) -> Resolution<Zoned<'a>>
+fn those_showing<'a>(datetime: DateTime, one: Zoned<'a>, other: Zoned<'a>) -> Resolution<Zoned<'a>>
     ensures { result ≡ chosen (is_showing one.entry datetime) (is_showing other.entry datetime) one.entry other.entry }
 {
     match (one.datetime() == datetime, other.datetime() == datetime) {
@@ -52,7 +52,10 @@ fn in_order<'a>(one: Zoned<'a>, other: Zoned<'a>) -> Resolution<Zoned<'a>>
 
 // The instants of the value's zone that show the second. Where the clock is moved, `jiff` offers an earlier and a later
 // choice of offset: only those that really show the second count.
-fn resolved<'a>(zoned: &Zoned<'a>, civil: CivilDateTime) -> Result<Resolution<Zoned<'a>>, CronError>
+fn resolution_of<'a>(
+    zoned: &Zoned<'a>,
+    civil: CivilDateTime,
+) -> Result<Resolution<Zoned<'a>>, CronError>
     ensures held { IsOk result ↔ IsTrue (is_near_year civil.date.year) }
     ensures value { IfOk result (IsResolved value_moment (value_moment zoned.now).zone civil) }
     ensures err { IfErr result (IsUnheld false (value_moment zoned.now).zone civil) }
@@ -74,7 +77,7 @@ fn resolved<'a>(zoned: &Zoned<'a>, civil: CivilDateTime) -> Result<Resolution<Zo
         Ok(later) => later,
         Err(_) => unreachable!(),
     };
-    Ok(showing(datetime, earlier, later))
+    Ok(those_showing(datetime, earlier, later))
 }
 
 impl<'a> CronDateTime for Zoned<'a> {
@@ -83,11 +86,11 @@ impl<'a> CronDateTime for Zoned<'a> {
     ghost can_lack_memory = { false };
 
     fn to_civil(&self) -> CivilDateTime {
-        to_civil(shown(self))
+        to_civil(shown_date_time(self))
     }
 
     fn civil_weekday(&self) -> Weekday {
-        to_weekday(shown(self).weekday())
+        to_weekday(shown_date_time(self).weekday())
     }
 
     fn resolve_civil(
@@ -100,7 +103,7 @@ impl<'a> CronDateTime for Zoned<'a> {
         ensures err { IfErr result (IsUnheld false (value_moment self.now).zone civil) }
         ensures date { IfErr result (λ e. e ≡ CronError.InvalidDate) }
     {
-        resolved(self, civil)
+        resolution_of(self, civil)
     }
 
     fn checked_add_seconds(

@@ -40,7 +40,7 @@ pub(crate) fn is_calm(first_offset: i32, changes: &[(i64, i32)]) -> bool
         gap_seconds: 0,
     };
     for &change in changes {
-        match tally.with(change) {
+        match tally.tally_with(change) {
             Some(next) => tally = next,
             None => return false,
         }
@@ -69,7 +69,7 @@ impl Tally {
     ghost use Rattle.croner_base.specs.Private.TableSteps.{known_after, known_by, IsNextChange};
 
     // The tally with one change more, or `None` where that change makes the table refused.
-    fn with(self, change: (i64, i32)) -> Option<Tally>
+    fn tally_with(self, change: (i64, i32)) -> Option<Tally>
         ensures some { IsSome result ↔ IsNextChange (known_by self) change }
         ensures value { IfSome result (λ t. known_by t ≡ known_after (known_by self) change) }
     {

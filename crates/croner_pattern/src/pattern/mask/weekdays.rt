@@ -26,8 +26,8 @@ pub fn weekdays_named<P: PatternWords>(pattern: &P, length: u32, first: u32) -> 
     requires first { first < 7 }
     ensures { ShowsDays length (is_weekday_side (P.meaning pattern.now).days_of_week length first) result }
 {
-    let last = marked(pattern, LAST_PLACE, first) & last_week(length);
-    marked(pattern, PLAIN_PLACE, first) | nth_named(pattern, first) | last
+    let last = days_marked(pattern, LAST_PLACE, first) & last_week(length);
+    days_marked(pattern, PLAIN_PLACE, first) | nth_named(pattern, first) | last
 }
 
 /// The weekdays that are marked with a modifier, from the lowest bit for Sunday.
@@ -41,7 +41,7 @@ pub fn marked_weekdays(weekdays: &CronComponent, bit: u8) -> u32
 
 /// The days whose weekday is marked with a modifier.
 #[inline(always)]
-fn marked<P: PatternWords>(pattern: &P, modifier: u8, first: u32) -> u32
+fn days_marked<P: PatternWords>(pattern: &P, modifier: u8, first: u32) -> u32
     requires modifier { modifier < 7 }
     requires first { first < 7 }
     ensures { ShowsDays 31 (λ day. is_marked (2 ^ modifier) (P.meaning pattern.now).days_of_week (weekday_of first day)) result }
@@ -71,5 +71,5 @@ fn nth_marked<P: PatternWords>(pattern: &P, before: u8, first: u32) -> u32
     requires first { first < 7 }
     ensures { ShowsDays 31 (λ day. (day - 1) / 7 == before && is_marked (2 ^ (before + 1)) (P.meaning pattern.now).days_of_week (weekday_of first day)) result }
 {
-    marked(pattern, before + 1, first) & (WEEK_BITS << (DAYS_PER_WEEK * u32::from(before)))
+    days_marked(pattern, before + 1, first) & (WEEK_BITS << (DAYS_PER_WEEK * u32::from(before)))
 }

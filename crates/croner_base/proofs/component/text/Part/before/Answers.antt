@@ -10,4 +10,4 @@ range-requires-clause-end_boundary c =
 pub invariant_of-result : goal.invariant_of-result
 invariant_of-result c =
     let whole : place_of c.self.inside.signs c.args.sign - 0 ≡ place_of c.self.inside.signs c.args.sign = omega arith in
-    rw (c.up_to.ensures, c.range.ensures.value, c.place-end.ensures, whole) (signs-front c.self.inside.text.now c.self.inside.signs c.args.sign c.self.invariant)
+    rw (c.places_up_to.ensures, c.range.ensures.value, c.place-end.ensures, whole) (signs-front c.self.inside.text.now c.self.inside.signs c.args.sign c.self.invariant)

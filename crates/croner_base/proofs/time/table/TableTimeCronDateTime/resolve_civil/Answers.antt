@@ -13,13 +13,13 @@ returns-then-year-clause-err c =
       | then-year-via-else-year+then-year-gt-YEAR_LIMIT w ↦ unheld c.args.self.now.table.now c.args.civil (is_near_year-high c.args.civil.date.year (omega (arith, ints)))
     ]
 
-pub resolved-requires-clause-low : goal.resolved-requires-clause-low
-resolved-requires-clause-low c =
+pub resolution_of-requires-clause-low : goal.resolution_of-requires-clause-low
+resolution_of-requires-clause-low c =
     let b = near_second c.args.civil (omega (arith, ints)) (omega (arith, ints)) in
     omega (arith, ints, b)
 
-pub resolved-requires-clause-high : goal.resolved-requires-clause-high
-resolved-requires-clause-high c =
+pub resolution_of-requires-clause-high : goal.resolution_of-requires-clause-high
+resolution_of-requires-clause-high c =
     let b = near_second c.args.civil (omega (arith, ints)) (omega (arith, ints)) in
     omega (arith, ints, b)
 
@@ -28,5 +28,5 @@ returns-clause-value c =
     let b = near_second c.args.civil (omega (arith, ints)) (omega (arith, ints)) in
     let near = is_near_year-true c.args.civil.date.year (omega (arith, ints)) (omega (arith, ints)) in
     let f : FitsSigned w64 c.wall_second.result = omega (arith, ints, b) in
-    let e = simp to_z-of_z at c.resolved.ensures.value in
-    resolved_to c.args.self.now.table.now c.args.civil c.resolved.result near c.resolved.ensures.table (rw c.wall_second.ensures at e)
+    let e = simp to_z-of_z at c.resolution_of.ensures.value in
+    resolved_to c.args.self.now.table.now c.args.civil c.resolution_of.result near c.resolution_of.ensures.table (rw c.wall_second.ensures at e)

@@ -11,7 +11,7 @@ swapped false false = refl
 
 pub returns : goal.returns
 returns g c place low =
-    ap (λ n. has_bit (bit_and c.marked.result (127 * 2 ^ (7 * n) % 2 ^ 32)) place) c.from.ensures
-    ∙ has-and c.marked.result (127 * 2 ^ (7 * c.args.before) % 2 ^ 32) place
-    ∙ swapped (has_bit c.marked.result place) (has_bit (127 * 2 ^ (7 * c.args.before) % 2 ^ 32) place)
-    ∙ (λ i. has-nth_week c.args.before place c.requires.before low i && c.marked.ensures place low i)
+    ap (λ n. has_bit (bit_and c.days_marked.result (127 * 2 ^ (7 * n) % 2 ^ 32)) place) c.from.ensures
+    ∙ has-and c.days_marked.result (127 * 2 ^ (7 * c.args.before) % 2 ^ 32) place
+    ∙ swapped (has_bit c.days_marked.result place) (has_bit (127 * 2 ^ (7 * c.args.before) % 2 ^ 32) place)
+    ∙ (λ i. has-nth_week c.args.before place c.requires.before low i && c.days_marked.ensures place low i)

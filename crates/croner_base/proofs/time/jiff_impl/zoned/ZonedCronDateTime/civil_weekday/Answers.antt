@@ -5,5 +5,5 @@ use Rattle.croner_base.proofs.time.jiff_impl.zoned.ZonedCronDateTime.civil_weekd
 
 pub returns : goal.returns
 returns c =
-    c.to_weekday.ensures ∙ ap (λ n. (n + 1) % 7) c.weekday.ensures ∙ weekday-civil_seconds c.shown.result
-    ∙ ap weekday_of_second c.shown.ensures
+    c.to_weekday.ensures ∙ ap (λ n. (n + 1) % 7) c.weekday.ensures ∙ weekday-civil_seconds c.shown_date_time.result
+    ∙ ap weekday_of_second c.shown_date_time.ensures

@@ -7,7 +7,7 @@ use Rattle.jiff_core.specs.declared.timestamp.Timestamp.{Timestamp}
 use Rattle.jiff_tz.specs.declared.timezone.TimeZone.{TimeZone}
 use Rattle.croner_base.specs.ZonedZone.{zone_reads}
 use Rattle.croner_base.proofs.clocks.ZonedMoments.{shown_is, reading-zoned}
-use Rattle.croner_base.proofs.time.jiff_impl.zoned.shown.Goals as goal
+use Rattle.croner_base.proofs.time.jiff_impl.zoned.shown_date_time.Goals as goal
 
 pub returns : goal.returns
 returns c =

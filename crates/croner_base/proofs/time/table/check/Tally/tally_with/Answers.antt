@@ -1,7 +1,7 @@
 use Rattle.std.proofs.Common.{rules, ◌∙◌, sym, refl, arith, pos, ◌+ℤ◌, FitsSigned, w32, w64}
 use Rattle.std.proofs.lemmas.Int.{ints, to_z-of_z}
 use Rattle.croner_base.specs.Limits.{apart_limit}
-use Rattle.croner_base.proofs.time.table.check.Tally.with.Goals as goal
+use Rattle.croner_base.proofs.time.table.check.Tally.tally_with.Goals as goal
 
 pub invariant_of-result-clause-offset_in : goal.invariant_of-result-clause-offset_in
 invariant_of-result-clause-offset_in c =

@@ -2,8 +2,8 @@ use Rattle.std.proofs.Common.{sym, ◌∙◌}
 use Rattle.croner_base.specs.Private.words.Rows.{marks_in}
 use Rattle.croner_base.proofs.words.Counting.{any_skip, any_more}
 use Rattle.croner_base.proofs.words.Sums.{sums_bit}
-use Rattle.croner_base.proofs.component.marks.rows.any.Goals as goal
-use Rattle.croner_base.proofs.component.marks.rows.any.Goals.{then-bits-k-eq1, else-bits-k-eq1}
+use Rattle.croner_base.proofs.component.marks.rows.values_with_any.Goals as goal
+use Rattle.croner_base.proofs.component.marks.rows.values_with_any.Goals.{then-bits-k-eq1, else-bits-k-eq1}
 
 pub loop-k-preserved : goal.loop-k-preserved
 loop-k-preserved c = elim c.if-bits-k-eq1.branch [

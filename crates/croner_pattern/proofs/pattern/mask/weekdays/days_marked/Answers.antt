@@ -1,6 +1,6 @@
 use Rattle.std.proofs.Common.{◌+◌, ◌∙◌, arith}
 use Rattle.croner_pattern.specs.Days.{weekday_of}
-use Rattle.croner_pattern.proofs.pattern.mask.weekdays.marked.Goals as goal
+use Rattle.croner_pattern.proofs.pattern.mask.weekdays.days_marked.Goals as goal
 
 pub returns : goal.returns
 returns g c place low =

@@ -8,8 +8,8 @@ use Rattle.croner_base.specs.declared.time.value.Resolution.{Resolution}
 use Rattle.croner_base.specs.Zone.{IsResolved}
 use Rattle.croner_base.specs.ZonedValue.{value_moment, is_showing}
 use Rattle.croner_base.proofs.clocks.ZonedResolved.{false_is_not_true, offset_choices, near_timestamp, whole_nanos, unheld_far, is_near_year-true, is_near_year-low, is_near_year-high, chosen_resolved}
-use Rattle.croner_base.proofs.time.jiff_impl.zoned.resolved.Goals as goal
-use Rattle.croner_base.proofs.time.jiff_impl.zoned.resolved.Goals.{then-year-via-then-year, then-year-via-else-year+then-year-gt-YEAR_LIMIT}
+use Rattle.croner_base.proofs.time.jiff_impl.zoned.resolution_of.Goals as goal
+use Rattle.croner_base.proofs.time.jiff_impl.zoned.resolution_of.Goals.{then-year-via-then-year, then-year-via-else-year+then-year-gt-YEAR_LIMIT}
 
 pub returns-clause-held : goal.returns-clause-held
 returns-clause-held c =
@@ -27,7 +27,7 @@ returns-clause-value c =
     (omega (arith, ints)) (omega (arith, ints)) c.in-Ok.ensures.value
     c.in-Ok-earlier.ensures.value c.in-Ok-earlier.ensures.zone c.in-Ok-later.ensures.value c.in-Ok-later.ensures.zone
     refl refl in
-    subst (λ (r : Resolution Zoned). IsResolved value_moment (value_moment c.args.zoned.now).zone c.args.civil r) (sym c.showing.ensures)
+    subst (λ (r : Resolution Zoned). IsResolved value_moment (value_moment c.args.zoned.now).zone c.args.civil r) (sym c.those_showing.ensures)
     (chosen_resolved tz c.args.civil c.in-Ok.datetime c.in-Ok-earlier.earlier c.in-Ok-later.later
     (is_showing c.in-Ok-earlier.earlier c.in-Ok.datetime) (is_showing c.in-Ok-later.later c.in-Ok.datetime) s)
 
