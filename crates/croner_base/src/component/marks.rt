@@ -150,7 +150,7 @@ impl Marks {
         requires { value < room self.now.max }
         ensures { result ≡ is_set bits self.now value }
     {
-        self.any(bits, usize::from(value / WORD_BITS)) >> (value % WORD_BITS) & 1 == 1
+        self.values_with_any(bits, usize::from(value / WORD_BITS)) >> (value % WORD_BITS) & 1 == 1
     }
 
     /// Marks the value with each modifier of `bits`.
