@@ -11,7 +11,7 @@ use Rattle.crontab.specs.declared.line.Dialect.TheVariants as dialects
 use Rattle.crontab.specs.declared.line.Fault.{Fault}
 use Rattle.crontab.specs.declared.line.Fault.TheVariants as faults
 use Rattle.crontab.specs.declared.notes.Note.{Note}
-use Rattle.crontab.specs.Bytes.{front, behind}
+use Rattle.crontab.specs.Bytes.{front, text_after}
 use Rattle.crontab.specs.Line.{next}
 use Rattle.crontab.specs.Notes.{note_name}
 use Rattle.croncheck_changes.specs.declared.changes.meetings.Met.{Met}
@@ -102,7 +102,7 @@ word_extent line rest = record { start = length line - length rest; end = (lengt
 
 -- a field of a line with these times
 abbrev pub field_extent : List ℕ → List ℕ → PatternField → Extent
-field_extent line times field = word_extent line (from_place (has_seconds times) field (behind kinds.Blank line))
+field_extent line times field = word_extent line (from_place (has_seconds times) field (text_after kinds.Blank line))
 
 -- no other white space than spaces and tabs stands in a text
 abbrev pub is_plain : List ℕ → Bool

@@ -5,7 +5,7 @@ use Rattle.std.specs.Borrow.{Bor}
 use Rattle.std.specs.List.{list_any, slice_split}
 use Rattle.std.specs.Str.{bytes_eq}
 use Rattle.crontab.specs.declared.bytes.Kind.TheVariants as kinds
-use Rattle.crontab.specs.Bytes.{is_space, front, behind, rest_of}
+use Rattle.crontab.specs.Bytes.{is_space, front, text_after, rest_of}
 use Rattle.crontab.specs.Line.{Line, blank, comment, setting, job, pattern, refused, next}
 use Rattle.croncheck_changes.specs.declared.changes.meetings.Met.{Met}
 use Rattle.croncheck_changes.specs.declared.changes.meetings.Meetings.{Meetings}
@@ -44,7 +44,7 @@ names_seen names = map (λ n. n.now) names
 -- the list of a comment that allows something: what stands behind `# croncheck: allow`
 abbrev pub list_in : List ℕ → Option (List ℕ)
 list_in line =
-    let text = behind kinds.Blank (rest_of (behind kinds.Blank line)) in
+    let text = text_after kinds.Blank (rest_of (text_after kinds.Blank line)) in
     if bytes_eq (front kinds.Word text) (codes "croncheck:") && bytes_eq (front kinds.Word (next text)) (codes "allow") then Some (next (next text)) else None
 
 -- what stands between the names of a list: a space or a comma

@@ -11,7 +11,7 @@ use Rattle.croner.specs.parser.Grammar.{Refusal, outcome, Texts}
 use Rattle.crontab.specs.declared.bytes.Kind.TheVariants as kinds
 use Rattle.crontab.specs.declared.line.Entry.{Entry}
 use Rattle.crontab.specs.declared.line.Entry.TheVariants as entries
-use Rattle.crontab.specs.Bytes.{front, behind}
+use Rattle.crontab.specs.Bytes.{front, text_after}
 use Rattle.crontab.specs.Content.{IsRefusalOf, IsFaultOf}
 use Rattle.crontab.specs.Entries.{job_seen}
 use Rattle.crontab.specs.declared.notes.Note.{Note}
@@ -230,8 +230,8 @@ IsReportOfPattern is_fed s blanks text (reports.Refused start end why) = IsPatte
 abbrev pub setting_found : Bool → List ℕ → SettingReport
 setting_found is_zone line = record {
   is_zone = is_zone;
-  is_not_expanded = is_not_expanded (behind kinds.Blank line);
-  is_hiding = has_hidden (behind kinds.Blank line);
+  is_not_expanded = is_not_expanded (text_after kinds.Blank line);
+  is_hiding = has_hidden (text_after kinds.Blank line);
 }
 
 -- any of these is found

@@ -21,7 +21,7 @@ use Rattle.crontab.specs.declared.field.Place.{Place}
 use Rattle.crontab.specs.declared.field.Part.{Part}
 use Rattle.croncheck_warnings.specs.declared.warnings.OtherWarning.{OtherWarning}
 use Rattle.croncheck_warnings.specs.declared.warnings.OtherWarning.TheVariants as others
-use Rattle.crontab.specs.Bytes.{front, behind, begins_with}
+use Rattle.crontab.specs.Bytes.{front, text_after, begins_with}
 use Rattle.crontab.specs.Line.{Five, words_of, minute_place, hour_place, day_place, month_place, weekday_place}
 use Rattle.crontab.specs.List.{parts_of, names_nothing, is_uneven}
 use Rattle.crontab.specs.Notes.{has_passed_over as are_passed_over, has_large_number as is_large_in, has_other_name as is_named_otherwise, looks_like_weekdays}
@@ -226,7 +226,7 @@ pub record NamesDates (m : Meaning) (d : Dates) : Type 0 where
 
 -- the command is spaces alone, or begins with `#` behind blanks, so that a shell takes it for a comment
 abbrev pub has_no_command : List ℕ → Bool
-has_no_command command = length (behind kinds.Space command) == 0 || begins_with 35 (behind kinds.Blank command)
+has_no_command command = length (text_after kinds.Space command) == 0 || begins_with 35 (text_after kinds.Blank command)
 
 -- the text begins with a word that may be a field of weekdays, and with no comment
 abbrev pub looks_like_field : List ℕ → Bool
@@ -242,7 +242,7 @@ has_no_user_sign name = list_any is_no_user_sign name
 
 -- the command begins with `root` and a blank
 abbrev pub begins_with_root : List ℕ → Bool
-begins_with_root command = bytes_eq (front kinds.Word command) (codes "root") && nat_lt 0 (length (behind kinds.Word command))
+begins_with_root command = bytes_eq (front kinds.Word command) (codes "root") && nat_lt 0 (length (text_after kinds.Word command))
 
 -- what was met of a command, byte by byte: a percent sign counts that stands behind no backslash, and a backslash takes in the byte behind it
 abbrev pub met_next : Met → ℕ → Met

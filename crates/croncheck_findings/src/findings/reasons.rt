@@ -4,7 +4,7 @@ use super::hints::{push_hint, push_nickname_hint};
 use super::refused_pattern::push_pattern_reason;
 use croncheck_output::front::{COMMAND_BYTES, push_front};
 use croncheck_report::report::Why;
-use crontab::bytes::{Kind, begins_with, cut, is_quote, rest_of, trimmed};
+use crontab::bytes::{Kind, begins_with, cut, is_quote, rest_of, trim_end};
 use crontab::line::{Fault, WEEKDAYS, words_of};
 use crontab::notes::{is_nickname, takes};
 use crontab::setting::has;
@@ -162,13 +162,13 @@ fn fields_before(fault: Fault) -> u8 {
 
 // Whether a nickname's word is one but for a carriage return behind it.
 fn is_cut_nickname(piece: &[u8]) -> bool {
-    let name = trimmed(rest_of(piece));
+    let name = trim_end(rest_of(piece));
     name.len() < rest_of(piece).len() && is_nickname(name)
 }
 
 // Whether a text has nothing but carriage returns and other spaces.
 fn is_carriage_return(text: &[u8]) -> bool {
-    has(text, b'\r') && trimmed(text).is_empty()
+    has(text, b'\r') && trim_end(text).is_empty()
 }
 
 // What stands behind a name and a `=`, without the spaces in front of it.

@@ -5,7 +5,7 @@ ghost use Rattle.crontab.specs.Entries.{entry_seen, job_seen};
 ghost use Rattle.croncheck_planner.specs.Titles.{is_hash, is_no_slash, without_hashes, comment_text, heading, heading_of_comment, is_equals, last_part, title_of_word, title_of_command, title_of_job, title_of};
 
 use croncheck_report::allowed::comment::list_in;
-use crontab::bytes::{Kind, cut, trimmed};
+use crontab::bytes::{Kind, cut, trim_end};
 use crontab::line::{Entry, Job, word};
 use std::alloc::{AllocError, Global};
 
@@ -48,7 +48,7 @@ fn comment_text(line: &[u8]) -> &[u8]
     let (_, comment) = cut(line, Kind::Blank);
     let text = without_hashes(comment);
     let (_, text) = cut(text, Kind::Blank);
-    trimmed(text)
+    trim_end(text)
 }
 
 // A text without the hashes in front.

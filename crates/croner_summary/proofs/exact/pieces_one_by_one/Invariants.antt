@@ -2,7 +2,7 @@ use Rattle.std.proofs.Common.{◌≡◌, ℕ}
 use Rattle.std.proofs.Common.{◌&&◌, leb, ltb}
 use Rattle.croner_pattern.specs.Schedule.{is_named}
 use Rattle.croner_summary.specs.Says.{is_in_some}
-use Rattle.croner_summary.proofs.exact.one_by_one.Given as goal
+use Rattle.croner_summary.proofs.exact.pieces_one_by_one.Given as goal
 
 abbrev pub invariant-loop-value : goal.invariant-loop-value
 invariant-loop-value l =

@@ -1,7 +1,7 @@
 use Rattle.std.proofs.Common.{rules, ◌∙◌, arith, pos, ◌+ℤ◌, ◌-ℤ◌, w64, FitsSigned}
 use Rattle.std.proofs.lemmas.Int.{ints, to_z-of_z}
 use Rattle.crontab_runs.proofs.TableStretches.{table_stretch, one_before}
-use Rattle.crontab_runs.proofs.stretch.Stretch.behind.Goals as goal
+use Rattle.crontab_runs.proofs.stretch.Stretch.after_changes.Goals as goal
 
 pub overflow_sub-before : goal.overflow_sub-before
 overflow_sub-before c =

@@ -8,7 +8,7 @@ use Rattle.crontab_runs.specs.Listing.{onward_from}
 use Rattle.crontab_runs.specs.Searches.{IsStartFound, NoStartLeft}
 use Rattle.crontab_runs.specs.Views.{cron_job_of}
 use Rattle.crontab_runs.proofs.StartBounds.{onward_held}
-use Rattle.crontab_runs.proofs.listing.StartIterator.nearest.Goals as goal
+use Rattle.crontab_runs.proofs.listing.StartIterator.nearest_start.Goals as goal
 
 pub returns-in-Forward-clause-found : goal.returns-in-Forward-clause-found
 returns-in-Forward-clause-found c =

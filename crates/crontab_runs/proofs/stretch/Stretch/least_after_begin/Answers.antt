@@ -4,7 +4,7 @@ use Rattle.croner_base.specs.TableZone.{table_zone}
 use Rattle.crontab_runs.specs.Starts.{minute_of}
 use Rattle.crontab_runs.proofs.BeginStarts.{shown_bounds, shown_found, minute_found}
 use Rattle.crontab_runs.proofs.PartStarts.{one_more_minute}
-use Rattle.crontab_runs.proofs.stretch.Stretch.least_behind.Goals as goal
+use Rattle.crontab_runs.proofs.stretch.Stretch.least_after_begin.Goals as goal
 
 pub overflow_add-minute_of : goal.overflow_add-minute_of
 overflow_add-minute_of c =

@@ -2,8 +2,8 @@ use Rattle.std.proofs.Common.{ap, sym, ◌∙◌}
 use Rattle.croner_pattern.specs.Schedule.{is_named}
 use Rattle.croner_summary.specs.Says.{is_in_some}
 use Rattle.croner_summary.proofs.Exactly.{with_one, without_one}
-use Rattle.croner_summary.proofs.exact.one_by_one.Goals as goal
-use Rattle.croner_summary.proofs.exact.one_by_one.Goals.{then-has+in_ok-push, else-has}
+use Rattle.croner_summary.proofs.exact.pieces_one_by_one.Goals as goal
+use Rattle.croner_summary.proofs.exact.pieces_one_by_one.Goals.{then-has+in_ok-push, else-has}
 
 pub loop-value-preserved : goal.loop-value-preserved
 loop-value-preserved c =
