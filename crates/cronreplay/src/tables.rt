@@ -2,7 +2,7 @@
 
 use croner::crontable::CronTable;
 use croner::errors::CronError;
-use croner::laws::crontable::{next_table_runs, resumed_table};
+use croner::laws::crontable::{next_table_runs, resume_table_after};
 use croner::time::Direction;
 use croner_rows::{Caller, Fault, Job, Result, Run, Runs, Table, civil_value, number_at, shown};
 use serde_json::Value;
@@ -63,7 +63,7 @@ pub fn taken_up(alloc: Global, question: &Value, table: &CronTable) -> Result<Va
     let Some((last, _)) = items.last() else {
         return Err(Fault::Malformed);
     };
-    let next = Runs::OfTable(resumed_table(&table, *last, Direction::Forward)).next();
+    let next = Runs::OfTable(resume_table_after(&table, *last, Direction::Forward)).next();
     let mut shown = Vec::new(alloc);
     for run in items {
         shown.push(Run::of_table(run).shown(alloc)?)?;

@@ -1,5 +1,5 @@
 use Rattle.std.proofs.Common.{arith}
-use Rattle.croner.proofs.search.gap.SideSearch.narrowed.Goals as goal
+use Rattle.croner.proofs.search.gap.SideSearch.narrow.Goals as goal
 
 pub returns-in-Some-clause-around : goal.returns-in-Some-clause-around
 returns-in-Some-clause-around g c =
@@ -7,7 +7,7 @@ returns-in-Some-clause-around g c =
     let near = around.near in
     let ordered = around.ordered in
     let wide = c.requires.wide in
-    let answered = rw c.in-Some.is at c.beyond.ensures in
+    let answered = rw c.in-Some.is at c.probe_beyond.ensures in
     record { ordered = omega arith; near = omega arith; skipped = around.skipped; beyond = answered }
 
 pub returns-in-None-clause-around : goal.returns-in-None-clause-around
@@ -16,5 +16,5 @@ returns-in-None-clause-around g c =
     let near = around.near in
     let ordered = around.ordered in
     let wide = c.requires.wide in
-    let skipped = rw c.in-None.is at c.beyond.ensures in
+    let skipped = rw c.in-None.is at c.probe_beyond.ensures in
     record { ordered = omega arith; near = omega arith; skipped = skipped; beyond = around.beyond }

@@ -7,7 +7,7 @@ use Rattle.std.specs.Char.{encode_utf8}
 use Rattle.std.specs.Str.{chars}
 use Rattle.croner.specs.parser.Grammar.{starred}
 use Rattle.croner.proofs.parser.Starred.{no_question, starred_step, starred_end}
-use Rattle.croner.proofs.parser.settle.starred.Goals as goal
+use Rattle.croner.proofs.parser.settle.replace_questions.Goals as goal
 
 pub returns-then-not-has_byte : goal.returns-then-not-has_byte
 returns-then-not-has_byte c = no_question c.args.text.now (search rules)

@@ -1,6 +1,6 @@
 use Rattle.croner.proofs.zone.GapSides.{shown_one, shown_two, next_skipped}
 use Rattle.croner.proofs.zone.Walks.{searched_not_last}
-use Rattle.croner.proofs.search.gap.SideSearch.beyond.Goals as goal
+use Rattle.croner.proofs.search.gap.SideSearch.probe_beyond.Goals as goal
 
 pub unreachable-requires : goal.unreachable-requires
 unreachable-requires g c =

@@ -1,11 +1,11 @@
 use Rattle.std.proofs.Common.{rules, ap, sym, ◌∙◌, string_bytes}
 use Rattle.croner.specs.parser.Cut.{replaced}
-use Rattle.croner.specs.Private.parser.Steps.{behind, has_dash, Advances}
-use Rattle.croner.proofs.parser.Names.{behind-nil}
-use Rattle.croner.proofs.parser.prepare.replaced.Goals as goal
+use Rattle.croner.specs.Private.parser.Steps.{with_front, has_dash, Advances}
+use Rattle.croner.proofs.parser.Names.{with_front-nil}
+use Rattle.croner.proofs.parser.prepare.replace_names.Goals as goal
 
 pub loop-rest-init : goal.loop-rest-init
-loop-rest-init c = record { is_text = c.utf8.text; same = rw c.in_ok-written.ensures.bytes (behind-nil _) }
+loop-rest-init c = record { is_text = c.utf8.text; same = rw c.in_ok-written.ensures.bytes (with_front-nil _) }
 
 pub loop-rest-preserved : goal.loop-rest-preserved
 loop-rest-preserved c =
@@ -13,6 +13,6 @@ loop-rest-preserved c =
     record {
       is_text = step.is_text;
       same =
-          ap (λ t. behind (string_bytes c.push_piece.new.written) (replaced c.args.quartz (has_dash t) c.in-Some.next.now)) c.as_bytes.ensures.value ∙ sym step.same
+          ap (λ t. with_front (string_bytes c.push_piece.new.written) (replaced c.args.quartz (has_dash t) c.in-Some.next.now)) c.as_bytes.ensures.value ∙ sym step.same
           ∙ c.loop-rest.invariant.same;
     }
