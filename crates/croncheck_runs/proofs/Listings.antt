@@ -243,7 +243,7 @@ module _ (m : Meaning) (start : TableTime) where
       → ListsUntil (starts m start) new until most items ending → Stops (runs_behind m start) until most (instants table_moment items) fault ending
   stops_is new until most items fault endings.Full l = l.ended
   stops_is new until most items fault (endings.Past i) l =
-      let next = next_past (IsLeft (starts m start)) (IsLeft new) (instants table_moment items) i l.rest.counts l.rest.either l.rest.behind in
+      let next = next_past (IsLeft (starts m start)) (IsLeft new) (instants table_moment items) i l.rest.counts l.rest.either l.rest.later in
       (next.0, l.ended, next.1)
   stops_is new until most items fault endings.Over l = l.ended.0
   stops_is new until most items fault endings.Refused l = λ well. absurd (l.ended.0 (searchable start well))

@@ -103,7 +103,7 @@ module _ (m : Meaning) (asked : Previous) where
       → Stops rest asked.from asked.count (instants table_moment items) fault ending
   stops_is new items fault endings.Full l = l.ended
   stops_is new items fault (endings.Past i) l =
-      from_past (IsLeft (ends_at m asked.start)) (IsLeft new) (instants table_moment items) i asked.from l.rest.either l.rest.behind l.ended
+      from_past (IsLeft (ends_at m asked.start)) (IsLeft new) (instants table_moment items) i asked.from l.rest.either l.rest.later l.ended
   stops_is new items fault endings.Over l = l.ended.0
   stops_is new items fault endings.Refused l = λ well. absurd (l.ended.0 (searchable asked.start well))
 

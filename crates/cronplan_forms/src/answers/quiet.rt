@@ -27,9 +27,9 @@ pub struct ShownWindow {
 pub fn quiet_text(alloc: Global, view: View<'_>, least: u64) -> Result<String, AllocError>
     ensures { IfOk result (λ t. (shown : List ShownWindow) × IsQuiet (table_zone view.entry.table.now) view.entry.plan.now least shown × (string_bytes t ≡ quiet_text least shown)) }
 {
-    let windows = view.plan.quiet(alloc, least)?;
+    let windows = view.plan.quiet_windows(alloc, least)?;
     let shown = shown_windows(alloc, view.table, windows.as_slice())?;
-    text_of(alloc, shown.as_slice(), least)
+    text_of_windows(alloc, shown.as_slice(), least)
 }
 
 // What the clock of a table shows at the sides of windows.
@@ -54,12 +54,12 @@ fn shown_window(table: &ClockTable, window: Window) -> ShownWindow
 {
     ShownWindow {
         window,
-        from: ClockTime::at(table, window.from.second),
-        until: ClockTime::at(table, window.until.second),
+        from: ClockTime::shown_at(table, window.from.second),
+        until: ClockTime::shown_at(table, window.until.second),
     }
 }
 
-fn text_of(alloc: Global, windows: &[ShownWindow], least: u64) -> Result<String, AllocError>
+fn text_of_windows(alloc: Global, windows: &[ShownWindow], least: u64) -> Result<String, AllocError>
     ensures { IfOk result (λ t. string_bytes t ≡ quiet_text least windows.now) }
 {
     let mut text = String::new(alloc);

@@ -3,7 +3,7 @@ use Rattle.std.proofs.lemmas.Fn.{always_returns_same}
 use Rattle.cronplan.specs.Private.Meetings.{is_lower}
 use Rattle.cronplan.proofs.AlikeElements.{alike_first, stand_first}
 use Rattle.cronplan.proofs.JobSets.{lower_weak}
-use Rattle.cronplan.proofs.together.alike.Goals as goal
+use Rattle.cronplan.proofs.together.meetings_with_jobs.Goals as goal
 
 pub returns : goal.returns
 returns c =

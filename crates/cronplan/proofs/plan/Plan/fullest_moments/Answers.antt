@@ -2,7 +2,7 @@ use Rattle.std.proofs.Common.{rules, subst, List}
 use Rattle.std.proofs.lemmas.List.Sorted.{answers_always}
 use Rattle.cronplan.specs.declared.start.JobStart.{JobStart}
 use Rattle.cronplan.specs.Moments.{AreMoments}
-use Rattle.cronplan.proofs.plan.Plan.fullest.Goals as goal
+use Rattle.cronplan.proofs.plan.Plan.fullest_moments.Goals as goal
 
 pub returns : goal.returns
 returns c = record {

@@ -4,7 +4,7 @@ use Rattle.cronplan.specs.declared.start.JobStart.{JobStart}
 use Rattle.cronplan.specs.declared.together.Meeting.{Meeting}
 use Rattle.cronplan.specs.Private.Meetings.{AreByJobs, AreSets}
 use Rattle.cronplan.proofs.JobSets.{are_together}
-use Rattle.cronplan.proofs.plan.Plan.together.Goals as goal
+use Rattle.cronplan.proofs.plan.Plan.sets_together.Goals as goal
 
 pub returns : goal.returns
 returns c =

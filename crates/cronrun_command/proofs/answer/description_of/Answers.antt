@@ -6,7 +6,7 @@ use Rattle.croner.specs.parser.Settings.{default_settings}
 use Rattle.croner.specs.Views.{job_of}
 use Rattle.cronrun_command.specs.Refused.{IsUnread}
 use Rattle.cronrun_command.proofs.Unread.{refused_unread}
-use Rattle.cronrun_command.proofs.answer.described.Goals as goal
+use Rattle.cronrun_command.proofs.answer.description_of.Goals as goal
 
 pub returns-in_err-job-clause-err : goal.returns-in_err-job-clause-err
 returns-in_err-job-clause-err c =
