@@ -11,7 +11,7 @@ use Rattle.croncheck_report.specs.FileSeen.{is_refused}
 use Rattle.croncheck_findings.specs.Findings.{Found, findings_of_line, described}
 use Rattle.croncheck_output.specs.Output.{Written, WritesApart, IsFlushed}
 use Rattle.croncheck_report.specs.Report.{IsReportOfPattern}
-use Rattle.croncheck_shown.specs.Reported.{below, EndsWithFound}
+use Rattle.croncheck_shown.specs.Reported.{EndsWithFound}
 
 -- what is found of it where this is asked
 abbrev pub told_by : Answer → List ℕ → Report → List Found
@@ -27,7 +27,7 @@ pub record Told : Type 0 where
 abbrev pub untold : Written → Told
 untold written = record { written = written; has_refused = false }
 
--- the pattern of a word: what stands behind its blanks in front
+-- the pattern of a word: what stands after its blanks in front
 abbrev pub pattern_in : List ℕ → List ℕ
 pattern_in word = text_after kinds.Blank word
 

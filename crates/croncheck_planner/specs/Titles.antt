@@ -45,7 +45,7 @@ abbrev pub or_text : List ℕ → List ℕ → List ℕ
 or_text [] other = other
 or_text (b ∷ bs) other = b ∷ bs
 
--- what stands behind the last slash of a path; the whole where that is nothing
+-- what stands after the last slash of a path; the whole where that is nothing
 abbrev pub last_part : List ℕ → List ℕ
 last_part path = or_text (drop (length path - suffix_len is_no_slash path) path) path
 

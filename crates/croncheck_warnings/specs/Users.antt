@@ -24,12 +24,12 @@ is_unknown None user = false
 is_unknown (Some text) None = false
 is_unknown (Some text) (Some name) = not (has_user text name)
 
--- a command begins with the name of a user of a text as /etc/passwd, and behind blanks a path follows
+-- a command begins with the name of a user of a text as /etc/passwd, and after blanks a path follows
 abbrev pub begins_with_user : List ℕ → List ℕ → Bool
 begins_with_user text command =
     has_user text (front kinds.Word command) && begins_with 47 (text_after kinds.Blank (text_after kinds.Word command))
 
--- where the user's name ends in the line of a job: one blank and the command stand behind it
+-- where the user's name ends in the line of a job: one blank and the command stand after it
 abbrev pub user_end : List ℕ → List ℕ → ℕ
 user_end line command = length line - (length command + 1)
 

@@ -7,7 +7,7 @@ use std::io::{BufWriter, ErrorKind};
 use std::process::ExitCode;
 use std::{env, io};
 
-// The words behind the program's own name. One that is not UTF-8 is an error of the kind
+// The words after the program's own name. One that is not UTF-8 is an error of the kind
 // `InvalidData`.
 fn words(rt: &HostRuntime) -> io::Result<Vec<String>> {
     let mut words = Vec::new(rt.alloc());

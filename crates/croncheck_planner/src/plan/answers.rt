@@ -62,12 +62,12 @@ pub(crate) fn jobs_of<'p>(alloc: Global, jobs: &'p [Planned]) -> Result<Vec<Job<
 {
     let mut told = Vec::new(alloc);
     for job in jobs {
-        told.push(job_of(job))?;
+        told.push(job_of_planned(job))?;
     }
     Ok(told)
 }
 
-fn job_of(job: &Planned) -> Job<'_>
+fn job_of_planned(job: &Planned) -> Job<'_>
     ensures { job_told result ≡ job_planned job.now }
 {
     Job {

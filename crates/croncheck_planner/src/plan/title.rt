@@ -134,12 +134,12 @@ fn is_equals(byte: u8) -> bool
 fn last_part(path: &[u8]) -> &[u8]
     ensures { result.now ≡ last_part path.now }
 {
-    let part = path.split_at(path.len() - behind_slash(path)).1;
+    let part = path.split_at(path.len() - length_after_slash(path)).1;
     if part.is_empty() { path } else { part }
 }
 
-// How many bytes stand behind the last slash of a path; all where it has none.
-fn behind_slash(path: &[u8]) -> usize
+// How many bytes stand after the last slash of a path; all where it has none.
+fn length_after_slash(path: &[u8]) -> usize
     ensures count { result ≡ suffix_len is_no_slash path.now }
     ensures within { result ≤ length path.now }
 {

@@ -27,7 +27,7 @@ impl Planner {
     ) -> Result<PlanFile, CronError>
         ensures { IfOk result (IsCalendar terms.now.settings.now self.now naming.entry) }
     {
-        let found = self.found(terms)?;
+        let found = self.found_starts(terms)?;
         let told = jobs_of(terms.alloc, self.jobs.as_slice())?;
         let zone = terms.shared.zone.iana_name().unwrap_or("");
         let view = view_of(terms, zone, &found, told.as_slice());
