@@ -12,11 +12,7 @@ impl Planner {
     /// The plan as JSON, in a zone of this name: a line with the object that `cronplan_json::plan_json` makes.
     ///
     /// The only error is `OutOfMemory`, as that of `answered_plan`.
-    pub fn json<'p>(
-        &'p self,
-        terms: &'p Terms<'p, 'p>,
-        zone: &'p str,
-    ) -> Result<String, CronError>
+    pub fn json<'p>(&'p self, terms: &'p Terms<'p, 'p>, zone: &'p str) -> Result<String, CronError>
         ensures { IfOk result (λ text. IsJson terms.now.settings.now self.now zone.now (string_bytes text)) }
     {
         let found = self.found(terms)?;
