@@ -6,6 +6,7 @@ called; its starts in a span; moments, windows, sets of jobs, hours and dates. A
 job's place among those of the plan, and how many times. Seconds are counted from 1970-01-01T00:00:00 UTC, and wall seconds as if the
 zone's clock were UTC's. A span has a first second, and an end, which isn't in it.
 """
+import copy
 import datetime
 import functools
 import re
@@ -174,6 +175,13 @@ class Plan:
         if self.is_cut:
             self.end = self.starts[MOST_STARTS][0]
             self.starts = [start for start in self.starts if start[0] < self.end]
+
+    def on_clock(self, zone):
+        """The same starts on the clock of another zone. What is left out isn't named again."""
+        other = copy.copy(self)
+        other.zone, other.clock = zone, crontab_model.Clock(zone, self.first - 1, self.end)
+        other.left_out, other.is_cut = [], False
+        return other
 
     def most_on_a_date(self, found):
         counts = {}

@@ -17,7 +17,7 @@ pub fn answer_cases(rt: &HostRuntime) -> Result<bool> {
 
 fn answer_case(rt: &HostRuntime, line: &str) -> Result<()> {
     let case = json(rt.alloc(), line.as_bytes())?;
-    let (answer, after) = make_calls(Caller::marked(rt), &case)?.into_texts(rt.alloc())?;
+    let (answer, after) = make_calls(Caller::with_marks(rt), &case)?.into_texts(rt.alloc())?;
     println!(rt; "{answer}")?;
     println!(rt; "{after}")?;
     Ok(())

@@ -113,7 +113,7 @@ fn long_table(alloc: Global) -> Result<ClockTable> {
     add_series(&mut changes, BESIDE, before, APART_SECONDS, OFFSETS_BESIDE)?;
     add_changes(&mut changes)?;
     let last = change_in(LAST_YEAR, OCTOBER)?;
-    let behind = last.saturating_add(APART_SECONDS);
-    add_series(&mut changes, BESIDE, behind, APART_SECONDS, OFFSETS_BESIDE)?;
+    let after = last.saturating_add(APART_SECONDS);
+    add_series(&mut changes, BESIDE, after, APART_SECONDS, OFFSETS_BESIDE)?;
     Ok(ClockTable::new(WINTER_OFFSET, changes)?)
 }

@@ -3,7 +3,7 @@
 use croncheck_files::fitness::{Facts, Keeper, Unfit, unfit_of};
 use croncheck_files::names::{Asked, STANDARD_INPUT};
 use croncheck_files::root::{Kept, Root, kept_in};
-use croncheck_output::escaped::shown;
+use croncheck_output::escaped::shown_text;
 use croncheck_reading::files::Sources;
 use croncheck_warnings::users::Users;
 use crontab::line::Dialect;
@@ -187,7 +187,7 @@ pub fn announce_missing(rt: &HostRuntime, name: &str) -> Result<(), AllocError> 
 
 /// Says something of a file of a machine.
 pub fn announce(rt: &HostRuntime, name: &str, text: &str) -> Result<(), AllocError> {
-    let name = shown(rt.alloc(), name.as_bytes())?;
+    let name = shown_text(rt.alloc(), name.as_bytes())?;
     let _ = eprintln!(rt; "croncheck: {name}: {text}");
     Ok(())
 }

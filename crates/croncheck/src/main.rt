@@ -22,7 +22,7 @@ use croncheck_moments::moment::{
     Moment, date_at, last_of_month, last_of_week, last_up_to, second_of, start_from,
 };
 use croncheck_moments::zone::{note_of, refusal_of};
-use croncheck_output::escaped::shown;
+use croncheck_output::escaped::shown_text;
 use croncheck_output::look::Look;
 use croncheck_output::output::Output;
 use croncheck_reading::files::tell_files;
@@ -62,11 +62,11 @@ const USUAL_WIDTH: usize = 80;
 fn main(rt: HostRuntime) -> ExitCode {
     let status = match words(&rt) {
         Ok(words) => status(&rt, words.as_slice()),
-        Err(error) if error.kind() == ErrorKind::InvalidData => misused(
+        Err(error) if error.kind() == ErrorKind::InvalidData => tell_misuse(
             &rt,
             "error: a word of the call is not UTF-8\n",
         ),
-        Err(error) => stopped(&rt, &Problem::Words(error)),
+        Err(error) => tell_problem(&rt, &Problem::Words(error)),
     };
     ExitCode::from(status)
 }
@@ -79,40 +79,40 @@ fn words(rt: &HostRuntime) -> io::Result<Vec<String>> {
     Ok(words)
 }
 
-fn misused(rt: &HostRuntime, text: &str) -> u8 {
+fn tell_misuse(rt: &HostRuntime, text: &str) -> u8 {
     let _ = eprint!(rt; "{text}{USAGE}\n");
     MISUSED
 }
 
-fn stopped(rt: &HostRuntime, problem: &Problem) -> u8 {
+fn tell_problem(rt: &HostRuntime, problem: &Problem) -> u8 {
     let _ = eprintln!(rt; "croncheck: {problem}");
     problem.status()
 }
 
 fn status(rt: &HostRuntime, words: &[String]) -> u8 {
     match read_call(rt.alloc(), words) {
-        Ok(call) => match in_zone(rt, &call) {
+        Ok(call) => match check_in_zone(rt, &call) {
             Ok(status) => status,
-            Err(problem) => stopped(rt, &problem),
+            Err(problem) => tell_problem(rt, &problem),
         },
         Err(NoCall::Asked(text)) => match print!(rt; "{text}") {
             Ok(()) => 0,
-            Err(error) => stopped(rt, &Problem::Unwritten(error)),
+            Err(error) => tell_problem(rt, &Problem::Unwritten(error)),
         },
-        Err(NoCall::Misused(text)) => misused(rt, text.as_str()),
-        Err(NoCall::OutOfMemory) => stopped(rt, &Problem::OutOfMemory),
+        Err(NoCall::Misused(text)) => tell_misuse(rt, text.as_str()),
+        Err(NoCall::OutOfMemory) => tell_problem(rt, &Problem::OutOfMemory),
     }
 }
 
 // Checks in the zone that the words name.
-fn in_zone(rt: &HostRuntime, call: &Call<'_>) -> Result<u8, Problem> {
+fn check_in_zone(rt: &HostRuntime, call: &Call<'_>) -> Result<u8, Problem> {
     if let Ok(zone) = TimeZone::posix(call.zone) {
-        return in_ruled_zone(rt, call, zone);
+        return check_in_ruled_zone(rt, call, zone);
     }
     let zones = TimeZoneDatabase::from_env(rt).map_err(Problem::Zone)?;
     if call.zone == "local" {
         if call.root.is_some() {
-            return in_zone_of_machine(rt, call, &zones);
+            return check_in_zone_of_machine(rt, call, &zones);
         }
         let system = SystemTimeZone::read(rt).map_err(Problem::Zone)?;
         let zone = system.time_zone(&zones).map_err(Problem::Zone)?;
@@ -120,13 +120,13 @@ fn in_zone(rt: &HostRuntime, call: &Call<'_>) -> Result<u8, Problem> {
     }
     match zones.get(call.zone) {
         Ok(zone) => check(rt, call, zone),
-        Err(jiff::Error::TimeZoneNotFound) => Err(no_zone(rt, &zones, call.zone)),
+        Err(jiff::Error::TimeZoneNotFound) => Err(problem_of_no_zone(rt, &zones, call.zone)),
         Err(error) => Err(Problem::Zone(error)),
     }
 }
 
 // Checks in the zone of the machine that is checked: that to whose file its own is a link, or that of the file.
-fn in_zone_of_machine(
+fn check_in_zone_of_machine(
     rt: &HostRuntime,
     call: &Call<'_>,
     zones: &TimeZoneDatabase,
@@ -136,10 +136,10 @@ fn in_zone_of_machine(
     let target = match fs::read_link(rt, path) {
         Ok(target) => target,
         Err(error) if error.kind() == ErrorKind::OutOfMemory => return Err(Problem::OutOfMemory),
-        Err(_) => return in_zone_of_file(rt, call, path),
+        Err(_) => return check_in_zone_of_file(rt, call, path),
     };
     let Some(name) = zone_name(target.as_path().to_string_lossy()) else {
-        return in_zone_of_file(rt, call, path);
+        return check_in_zone_of_file(rt, call, path);
     };
     let Ok(()) = announce_zone(rt, path, name) else {
         return Err(Problem::OutOfMemory);
@@ -151,7 +151,7 @@ fn in_zone_of_machine(
 }
 
 // Checks in the zone of a file of a machine.
-fn in_zone_of_file(rt: &HostRuntime, call: &Call<'_>, path: &str) -> Result<u8, Problem> {
+fn check_in_zone_of_file(rt: &HostRuntime, call: &Call<'_>, path: &str) -> Result<u8, Problem> {
     match fs::read(rt, path) {
         Ok(bytes) => {
             let zone = Tzif::parse(rt.alloc(), None, bytes.as_slice()).map_err(Problem::Zone)?;
@@ -169,7 +169,7 @@ fn in_zone_of_file(rt: &HostRuntime, call: &Call<'_>, path: &str) -> Result<u8, 
 
 // Says which zone a machine has.
 fn announce_zone(rt: &HostRuntime, path: &str, name: &str) -> Result<(), AllocError> {
-    let name = shown(rt.alloc(), name.as_bytes())?;
+    let name = shown_text(rt.alloc(), name.as_bytes())?;
     let text = format!(in rt.alloc(); "the zone is {name}")?;
     announce(rt, path, text.as_str())
 }
@@ -196,7 +196,11 @@ fn root_of(rt: &HostRuntime, root: Option<&str>) -> Result<Root, Problem> {
 }
 
 // Checks in the zone of a rule, and says before which way it is off UTC, where that is easily taken for the other.
-fn in_ruled_zone(rt: &HostRuntime, call: &Call<'_>, zone: TimeZone<'_>) -> Result<u8, Problem> {
+fn check_in_ruled_zone(
+    rt: &HostRuntime,
+    call: &Call<'_>,
+    zone: TimeZone<'_>,
+) -> Result<u8, Problem> {
     match note_of(rt.alloc(), call.zone, &zone) {
         Ok(Some(note)) => {
             let _ = eprintln!(rt; "croncheck: {note}");
@@ -208,7 +212,7 @@ fn in_ruled_zone(rt: &HostRuntime, call: &Call<'_>, zone: TimeZone<'_>) -> Resul
 }
 
 // What is wrong with the word of a zone that is none.
-fn no_zone(rt: &HostRuntime, zones: &TimeZoneDatabase, word: &str) -> Problem {
+fn problem_of_no_zone(rt: &HostRuntime, zones: &TimeZoneDatabase, word: &str) -> Problem {
     match zone_refusal(rt, zones, word) {
         Ok(text) => Problem::NoZone(text),
         Err(_) => Problem::OutOfMemory,
@@ -255,7 +259,7 @@ fn check(rt: &HostRuntime, call: &Call<'_>, zone: TimeZone<'_>) -> Result<u8, Pr
     }
     match zones.get(word) {
         Ok(other) => check_in(rt, call, zone, Some(other)),
-        Err(jiff::Error::TimeZoneNotFound) => Err(no_zone(rt, &zones, word)),
+        Err(jiff::Error::TimeZoneNotFound) => Err(problem_of_no_zone(rt, &zones, word)),
         Err(error) => Err(Problem::Zone(error)),
     }
 }
@@ -310,13 +314,19 @@ fn check_in<'z>(
         allowed.as_slice(),
         known_users(&users),
     );
-    let shared = Shared::of(zone, settings.of(Dialect::User));
-    let shared = match other_zone {
-        Some(other) => shared.with_other_zone(other),
+    let zone_name = zone.iana_name().unwrap_or(call.zone);
+    let shared = Shared::of(zone, zone_name, settings.of(Dialect::User));
+    let shared = match &other_zone {
+        Some(other) => shared.with_other_zone(*other, other_name_of(call, other)),
         None => shared,
     };
     let kinds = TermsByKind::new(rt.alloc(), &settings, &shared);
     tell_of_machine(rt, call, &kinds, &root, &users)
+}
+
+// What the other zone is called: by its name, or as the call has it.
+fn other_name_of<'c>(call: &'c Call<'_>, other: &'c TimeZone<'_>) -> &'c str {
+    other.iana_name().unwrap_or(call.show_zone.unwrap_or(""))
 }
 
 // Where runs are listed from: at the begin of the month where the grid of one is asked for and no word says it.

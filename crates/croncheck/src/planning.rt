@@ -10,7 +10,6 @@ use croncheck_reading::files::tell_files;
 use croncheck_reading::form::Form;
 use croncheck_reading::progress::TermsByKind;
 use croncheck_reading::sink::Sink;
-use croncheck_report::shared::Shared;
 use croncheck_runs::clock::NoClock;
 use croner_base::time::CivilDateTime;
 use cronplan_forms::{Naming, Signs};
@@ -64,18 +63,22 @@ fn take_files<'s, 't, F: Form + Drop>(
     form: F,
 ) -> Result<Taken<'s, 't, F>, Problem> {
     let terms = kinds.of(Dialect::User);
-    let mut notes = rt.stderr();
+    let mut notes = Vec::new(rt.alloc());
     let mut sink = Sink::new(terms, form, Vec::new(rt.alloc()));
-    let status = tell_files(sources.machine, kinds, sources.files, &mut sink, &mut notes).map_err(
-        Problem::Unwritten,
-    )?;
-    notes
-        .write_all(sink.out().as_slice())
-        .map_err(Problem::Unwritten)?;
+    let told = tell_files(sources.machine, kinds, sources.files, &mut sink, &mut notes);
+    write_notes(rt, sink.out().as_slice(), notes.as_slice())?;
+    let status = told.map_err(Problem::Unwritten)?;
     if status == UNREAD {
         return Err(Problem::Unread);
     }
     Ok(Taken { sink, status })
+}
+
+// Writes to standard error what the form told, and below it the notes: the counts, and which files aren't read.
+fn write_notes(rt: &HostRuntime, told: &[u8], notes: &[u8]) -> Result<(), Problem> {
+    let mut stderr = rt.stderr();
+    stderr.write_all(told).map_err(Problem::Unwritten)?;
+    stderr.write_all(notes).map_err(Problem::Unwritten)
 }
 
 // Writes the calendar of the files' jobs. The status is 1 where it hasn't all starts.
@@ -127,7 +130,7 @@ fn write_page(
         return Err(Problem::OutOfMemory);
     };
     let terms = kinds.of(Dialect::User);
-    let zone = zone_word(call, terms.shared);
+    let zone = terms.shared.zone_name;
     let Ok(text) = taken
         .sink
         .form()
@@ -161,17 +164,12 @@ fn write_json(
     let planner = Planner::new(rt.alloc(), asked);
     let taken = take_files(rt, kinds, sources, planner)?;
     let terms = kinds.of(Dialect::User);
-    let zone = zone_word(call, terms.shared);
+    let zone = terms.shared.zone_name;
     let Ok(text) = taken.sink.form().json(&terms, zone) else {
         return Err(Problem::OutOfMemory);
     };
     write_text(rt, call, text.as_str())?;
     Ok(taken.status)
-}
-
-// What a zone is called: by its name, or as the call has it.
-fn zone_word<'c>(call: &'c Call<'_>, shared: &'c Shared<'_>) -> &'c str {
-    shared.zone.iana_name().unwrap_or(call.zone)
 }
 
 // Writes the text of a file: to that which the call names, and else to standard output.

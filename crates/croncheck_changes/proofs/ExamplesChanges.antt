@@ -7,7 +7,7 @@ use Rattle.croncheck_changes.specs.declared.changes.Fate.TheVariants as fates
 use Rattle.croncheck_changes.specs.declared.changes.Meeting.{Meeting}
 use Rattle.croncheck_changes.specs.declared.changes.Range.TheVariants as ranges
 use Rattle.croncheck_changes.specs.declared.changes.meetings.Met.{Met}
-use Rattle.croncheck_changes.specs.Changes.{fate_in_cron, with_all_hours, is_starless, is_warned, name_of}
+use Rattle.croncheck_changes.specs.Changes.{fate_in_cron, fate_with_all_hours, is_starless, is_warned, name_of}
 use Rattle.croncheck_runs.specs.declared.runs.Runner.TheVariants as runners
 
 -- the clock of Stockholm goes from 02:00 on 2025-03-30 on by so many seconds, and from 03:00 on 2025-10-26 back to 02:00
@@ -50,11 +50,11 @@ a_run_made_twice_of_many : is_warned (around (in_autumn fates.Twice)) ≡ false
 a_run_made_twice_of_many = refl
 
 -- 0 0-23 * * *: all hours are named, so it is due beside the range; cron waits for a new minute with it, and with 0 * * * * it doesn't
-a_job_of_all_hours : (with_all_hours true (fate_in_cron false ranges.Repeated back (pos 1_761_444_000)) ≡ fates.Paused)
+a_job_of_all_hours : (fate_with_all_hours true (fate_in_cron false ranges.Repeated back (pos 1_761_444_000)) ≡ fates.Paused)
     × (is_warned (around (in_autumn fates.Paused)) ≡ true) × (name_of ranges.Repeated fates.Paused ≡ codes "gap")
 a_job_of_all_hours = (refl, refl, refl)
 
-a_job_of_some_hours : with_all_hours false (fate_in_cron false ranges.Repeated back (pos 1_761_444_000)) ≡ fates.Once
+a_job_of_some_hours : fate_with_all_hours false (fate_in_cron false ranges.Repeated back (pos 1_761_444_000)) ≡ fates.Once
 a_job_of_some_hours = refl
 
 starless : (is_starless (runners.Cron false) ≡ true) × (is_starless (runners.Cron true) ≡ false) × (is_starless runners.Croner ≡ false)

@@ -69,7 +69,7 @@ found_least t run m h found =
     let near = found.nearest (starts_calm t) in
     let here = counted_is t.table.now m t.second run.second h near.counts in
     record {
-      behind = here.0;
+      reached = here.0;
       scheduled = here.1;
       least = λ v from scheduled. near.nearest v (counted t.table.now m t.second v h from scheduled);
     }
@@ -105,13 +105,13 @@ pub ruleset seconds_from = (to_z-of_z, seconds_at)
 before : (m : Meaning) (from end second : ℤ) (b : Bool) → int_lt second end ≡ b → IsLeastFrom m from second
     → MatchOption (if b then Some second else None) (IsNoneWithin m from end) (IsLeastWithin m from end)
 before m from end second true test least = (least, lt_of second end test)
-before m from end second false test least = λ w behind earlier scheduled.
-    let le = least.least w behind scheduled in
+before m from end second false test least = λ w follows earlier scheduled.
+    let le = least.least w follows scheduled in
     absurd (false≢true (sym test ∙ lt_test second end (omega (arith, ints, le, earlier))))
 
 within : (m : Meaning) (from end : ℤ) (r : Option ℤ) → MatchOption r (IsNoneFrom m from) (IsLeastFrom m from) → end ≤ℤ year_5000
     → MatchOption (if_before r end) (IsNoneWithin m from end) (IsLeastWithin m from end)
-within m from end None none le = λ w behind before scheduled. none w behind (omega (arith, ints, before, le)) scheduled
+within m from end None none le = λ w follows before scheduled. none w follows (omega (arith, ints, before, le)) scheduled
 within m from end (Some second) least le = before m from end second (int_lt second end) refl least
 
 -- the first part of the conclusion shows `grind` what to match
@@ -132,7 +132,7 @@ pub ruleset seconds_within = (to_z-of_z, found_within)
 pub due_by : (m : Meaning) (from end : ℤ) (r : Option ℤ) → MatchOption r (IsNoneWithin m from end) (IsLeastWithin m from end) → TellsDue m from end (is_some r)
 unfolding TellsDue
 due_by m from end None none = none
-due_by m from end (Some w) least = (w, least.0.behind, least.1, least.0.scheduled)
+due_by m from end (Some w) least = (w, least.0.reached, least.1, least.0.scheduled)
 
 pub ruleset due_seconds = (to_z-of_z, due_by)
 
@@ -149,11 +149,11 @@ after_is : (m : Meaning) (first end : ℤ) (b c : Bool) → b ≡ false → Tell
 unfolding TellsDue TellsDueAround
 after_is m first end true c is none due = absurd (false≢true (sym is))
 after_is m first end false true is none due = ((λ t. inr due), λ d. refl)
-after_is m first end false false is none none_behind = (
+after_is m first end false false is none none_from = (
   (λ t. absurd (false≢true t)),
   λ due. absurd (elim due [
     | inl before ↦ none before.0 before.1 before.2 before.3
-    | inr behind ↦ none_behind behind.0 behind.1 behind.2 behind.3
+    | inr follows ↦ none_from follows.0 follows.1 follows.2 follows.3
   ]),
 )
 
@@ -162,11 +162,11 @@ pub due_before : (m : Meaning) (first end : ℤ) (b : Bool) → b ≡ true → H
 due_before m first end b is room f due = before_is m first end b is (passed_as m (first -ℤ pos seconds_beside) first b (omega (arith, ints, room.first_from, room.first_to)) f due)
 
 -- the first part of the conclusion shows `grind` what to match
-pub due_behind : (m : Meaning) (from until : ℤ) (b : Bool) → TellsDue m from until b
+pub due_from : (m : Meaning) (from until : ℤ) (b : Bool) → TellsDue m from until b
     → TellsDue m from until b
     × ((first end : ℤ) (c : Bool) → from ≡ to_z w64 (of_z w64 (first -ℤ pos seconds_beside)) → until ≡ to_z w64 (of_z w64 first) → b ≡ false → HasRoom first end
     → FitsSigned w64 first → FitsSigned w64 end → TellsDue m (to_z w64 (of_z w64 end)) (to_z w64 (of_z w64 (end +ℤ pos seconds_beside))) c → TellsDueAround m first end c)
-due_behind m from until b before = (
+due_from m from until b before = (
   before,
   λ first end c at to is room f g due.
       let same = subst (λ x. TellsDue m (to_z w64 (of_z w64 (first -ℤ pos seconds_beside))) x b) to (subst (λ x. TellsDue m x until b) at before) in
@@ -174,7 +174,7 @@ due_behind m from until b before = (
       (passed_as m end (end +ℤ pos seconds_beside) c g (omega (arith, ints, room.end_from, room.end_to)) due),
 )
 
-pub ruleset due_around = (due_before, due_behind)
+pub ruleset due_around = (due_before, due_from)
 
 -- beside the range of a change
 pub beside_gap : (m : Meaning) (range : Range) (c : Change) (b : Bool) → range ≡ ranges.Gap → TellsDueAround m c.before c.after b → TellsDueBeside m range c b

@@ -32,11 +32,11 @@ watched_parts s i =
 pub watched_by : (s i : ℤ) → Decides (is_watched s i) (IsWatched s i)
 watched_by s i =
     let w = watched_parts s i in (
-      λ h. let p = w.0 h in record { behind = p.0; within = p.1.0; from = p.1.1.0; before = p.1.1.1 },
-      λ h. w.1 (h.behind, (h.within, (h.from, h.before))),
+      λ h. let p = w.0 h in record { follows = p.0; within = p.1.0; from = p.1.1.0; before = p.1.1.1 },
+      λ h. w.1 (h.follows, (h.within, (h.from, h.before))),
     )
 
--- a change of a table, behind an offset
+-- a change of a table, after an offset
 abbrev row_change : ℤ → ℤ × ℤ → Change
 row_change offset c = change_of offset c.0 c.1
 
@@ -48,7 +48,7 @@ watched_of start offset (c ∷ cs) =
 
 -- ---- they are the clock's
 
--- the watched changes of a zone behind an instant
+-- the watched changes of a zone after an instant
 record ArePast (z : Zone) (start past : ℤ) (changes : List Change) : Type 0 where
   each : All (λ c. (past <ℤ c.instant) × IsJump z c × IsWatched start c.instant) changes
   every : (i : ℤ) → past <ℤ i → IsChange z i → IsWatched start i → ¬ (All (λ c. ¬ (c.instant ≡ i)) changes)
@@ -58,7 +58,7 @@ record ArePast (z : Zone) (start past : ℤ) (changes : List Change) : Type 0 wh
 abbrev ReadsAs : Zone → ℤ → ℤ → List (ℤ × ℤ) → Type 0
 ReadsAs z from offset cs = (i : ℤ) → from ≤ℤ i → z.reads i ≡ clock_reads offset cs i
 
--- the first of changes lies behind an instant
+-- the first of changes lies after an instant
 abbrev IsFirstPast : ℤ → List (ℤ × ℤ) → Type 0
 IsFirstPast past [] = Unit {0}
 IsFirstPast past (c ∷ cs) = past <ℤ c.0
@@ -70,20 +70,20 @@ plain_before : (u i x : ℤ) → u ≡ (i -ℤ pos 1) +ℤ x → i +ℤ x ≡ u 
 plain_before u i x e = omega (arith, ints, e)
 
 offset_changes : (z : Zone) (past o : ℤ) (cs : List (ℤ × ℤ)) (i : ℤ) → ReadsAs z past o cs → past <ℤ i → IsChange z i → IsOffsetChange o cs i
-offset_changes z past o cs i reads behind change same =
-    change (plain_change _ _ i _ _ (reads i (omega (arith, ints, behind))) (reads (i -ℤ pos 1) (omega (arith, ints, behind))) same)
+offset_changes z past o cs i reads follows change same =
+    change (plain_change _ _ i _ _ (reads i (omega (arith, ints, follows))) (reads (i -ℤ pos 1) (omega (arith, ints, follows))) same)
 
--- behind the first change a table reads as the others do from there on
+-- after the first change a table reads as the others do from there on
 reads_on : (z : Zone) (past o : ℤ) (c : ℤ × ℤ) (cs : List (ℤ × ℤ)) → past <ℤ c.0 → ReadsAs z past o (c ∷ cs) → ReadsAs z c.0 c.1 cs
-reads_on z past o c cs behind reads i from = reads i (omega (arith, ints, behind, from)) ∙ ap (λ (x : ℤ). i +ℤ x) (passed o c cs i from)
+reads_on z past o c cs follows reads i from = reads i (omega (arith, ints, follows, from)) ∙ ap (λ (x : ℤ). i +ℤ x) (passed o c cs i from)
 
 -- the first change moves the clock
 is_jump : (z : Zone) (past o : ℤ) (c : ℤ × ℤ) (cs : List (ℤ × ℤ)) → past <ℤ c.0 → are_changes o (c ∷ cs) ≡ true → ReadsAs z past o (c ∷ cs) → IsJump z (row_change o c)
-is_jump z past o c cs behind h reads =
+is_jump z past o c cs follows h reads =
     let f = first_change o c cs h in
     let at = at_change o c cs c.0 f.apart refl in
-    let here : z.reads c.0 ≡ c.0 +ℤ c.1 = reads c.0 (omega (arith, ints, behind)) ∙ ap (λ (x : ℤ). c.0 +ℤ x) at.0 in
-    let before : z.reads (c.0 -ℤ pos 1) ≡ (c.0 -ℤ pos 1) +ℤ o = reads (c.0 -ℤ pos 1) (omega (arith, ints, behind)) ∙ ap (λ (x : ℤ). (c.0 -ℤ pos 1) +ℤ x) at.1 in
+    let here : z.reads c.0 ≡ c.0 +ℤ c.1 = reads c.0 (omega (arith, ints, follows)) ∙ ap (λ (x : ℤ). c.0 +ℤ x) at.0 in
+    let before : z.reads (c.0 -ℤ pos 1) ≡ (c.0 -ℤ pos 1) +ℤ o = reads (c.0 -ℤ pos 1) (omega (arith, ints, follows)) ∙ ap (λ (x : ℤ). (c.0 -ℤ pos 1) +ℤ x) at.1 in
     record {
       changes = λ same. step_moves o c.1 f.step (omega (arith, ints, here, before, same));
       before_is = plain_before _ c.0 o before;
@@ -97,7 +97,7 @@ first_past c (d ∷ ds) apart = let far = lt_of (c.0 +ℤ pos apart_limit) d.0 a
 none_past : (z : Zone) (start past o : ℤ) → ReadsAs z past o [] → ArePast z start past []
 none_past z start past o reads = record {
   each = All-nil _;
-  every = λ i behind change watched others. offset_changes z past o [] i reads behind change refl;
+  every = λ i follows change watched others. offset_changes z past o [] i reads follows change refl;
   ordered = λ j k d before within. absurd (omega (arith, within));
 }
 
@@ -107,17 +107,17 @@ ordered_more z start past c cs rest j zero d before within = absurd (omega (arit
 ordered_more z start past c cs rest zero (suc k) d before within = (rest.each k d (omega (arith, within))).0
 ordered_more z start past c cs rest (suc j) (suc k) d before within = rest.ordered j k d (omega (arith, before)) (omega (arith, within))
 
--- the changes behind a later instant, and one there if it is watched
+-- the changes after a later instant, and one there if it is watched
 wider : (z : Zone) (start past later : ℤ) (changes : List Change) → past <ℤ later → ArePast z start later changes → All (λ c. (past <ℤ c.instant) × IsJump z c × IsWatched start c.instant) changes
-wider z start past later changes behind rest =
+wider z start past later changes follows rest =
     All-weaker (λ (c : Change). (later <ℤ c.instant) × IsJump z c × IsWatched start c.instant) (λ (c : Change). (past <ℤ c.instant) × IsJump z c × IsWatched start c.instant)
-    (λ c h. (omega (arith, ints, behind, h.0), h.1, h.2)) changes rest.each
+    (λ c h. (omega (arith, ints, follows, h.0), h.1, h.2)) changes rest.each
 
 one_more : (z : Zone) (start past o : ℤ) (c : ℤ × ℤ) (cs : List (ℤ × ℤ)) (changes : List Change) → past <ℤ c.0 → are_changes o (c ∷ cs) ≡ true → ReadsAs z past o (c ∷ cs)
     → IsWatched start c.0 → ArePast z start c.0 changes → ArePast z start past (row_change o c ∷ changes)
-one_more z start past o c cs changes behind h reads watched rest = record {
-  each = All-cons (λ (d : Change). (past <ℤ d.instant) × IsJump z d × IsWatched start d.instant) (row_change o c) changes (behind, is_jump z past o c cs behind h reads, watched)
-      (wider z start past c.0 changes behind rest);
+one_more z start past o c cs changes follows h reads watched rest = record {
+  each = All-cons (λ (d : Change). (past <ℤ d.instant) × IsJump z d × IsWatched start d.instant) (row_change o c) changes (follows, is_jump z past o c cs follows h reads, watched)
+      (wider z start past c.0 changes follows rest);
   every = λ i after change is others. elim (place o c cs i (offset_changes z past o (c ∷ cs) i reads after change)) [
     | inl here ↦ All-head (λ (d : Change). ¬ (d.instant ≡ i)) (row_change o c) changes others (sym here)
     | inr later ↦ rest.every i later.0 change is (All-tail (λ (d : Change). ¬ (d.instant ≡ i)) (row_change o c) changes others)
@@ -127,8 +127,8 @@ one_more z start past o c cs changes behind h reads watched rest = record {
 
 no_more : (z : Zone) (start past o : ℤ) (c : ℤ × ℤ) (cs : List (ℤ × ℤ)) (changes : List Change) → past <ℤ c.0 → ReadsAs z past o (c ∷ cs)
     → ¬ (IsWatched start c.0) → ArePast z start c.0 changes → ArePast z start past changes
-no_more z start past o c cs changes behind reads not_watched rest = record {
-  each = wider z start past c.0 changes behind rest;
+no_more z start past o c cs changes follows reads not_watched rest = record {
+  each = wider z start past c.0 changes follows rest;
   every = λ i after change is others. elim (place o c cs i (offset_changes z past o (c ∷ cs) i reads after change)) [
     | inl here ↦ not_watched (rw here at is)
     | inr later ↦ rest.every i later.0 change is others
@@ -138,30 +138,30 @@ no_more z start past o c cs changes behind reads not_watched rest = record {
 
 by_test : (z : Zone) (start past o : ℤ) (c : ℤ × ℤ) (cs : List (ℤ × ℤ)) (b : Bool) → is_watched start c.0 ≡ b → past <ℤ c.0 → are_changes o (c ∷ cs) ≡ true
     → ReadsAs z past o (c ∷ cs) → ArePast z start c.0 (watched_of start c.1 cs) → ArePast z start past (watched_of start o (c ∷ cs))
-by_test z start past o c cs true is behind h reads rest = rw is (one_more z start past o c cs _ behind h reads ((watched_by start c.0).0 is) rest)
-by_test z start past o c cs false is behind h reads rest =
-    rw is (no_more z start past o c cs _ behind reads (λ watched. false≢true (sym is ∙ (watched_by start c.0).1 watched)) rest)
+by_test z start past o c cs true is follows h reads rest = rw is (one_more z start past o c cs _ follows h reads ((watched_by start c.0).0 is) rest)
+by_test z start past o c cs false is follows h reads rest =
+    rw is (no_more z start past o c cs _ follows reads (λ watched. false≢true (sym is ∙ (watched_by start c.0).1 watched)) rest)
 
 are_past : (z : Zone) (start past o : ℤ) (cs : List (ℤ × ℤ)) → IsFirstPast past cs → are_changes o cs ≡ true → ReadsAs z past o cs → ArePast z start past (watched_of start o cs)
-are_past z start past o [] behind h reads = none_past z start past o reads
-are_past z start past o (c ∷ cs) behind h reads =
+are_past z start past o [] follows h reads = none_past z start past o reads
+are_past z start past o (c ∷ cs) follows h reads =
     let f = first_change o c cs h in
-    by_test z start past o c cs (is_watched start c.0) refl behind h reads
-    (are_past z start c.0 c.1 cs (first_past c cs f.apart) f.rest (reads_on z past o c cs behind reads))
+    by_test z start past o c cs (is_watched start c.0) refl follows h reads
+    (are_past z start c.0 c.1 cs (first_past c cs f.apart) f.rest (reads_on z past o c cs follows reads))
 
 -- ---- those of a table
 
--- an instant before all changes, and not behind a start
+-- an instant before all changes, and not after a start
 before_all : (start : ℤ) (cs : List (ℤ × ℤ)) → (past : ℤ) × (past ≤ℤ start) × IsFirstPast past cs
 before_all start [] = (start, omega (arith, ints), tt)
 before_all start (c ∷ cs) =
-    by_lt_z start c.0 (λ before. (start, omega (arith, ints), before)) (λ behind. (c.0 -ℤ pos 1, omega (arith, ints, behind), omega (arith, ints)))
+    by_lt_z start c.0 (λ before. (start, omega (arith, ints), before)) (λ follows. (c.0 -ℤ pos 1, omega (arith, ints, follows), omega (arith, ints)))
 
 all_past : (z : Zone) (start past : ℤ) (changes : List Change) → past ≤ℤ start → ArePast z start past changes → AreChanges z start changes
 all_past z start past changes le are = record {
   each = All-weaker (λ (c : Change). (past <ℤ c.instant) × IsJump z c × IsWatched start c.instant) (λ (c : Change). IsJump z c × IsWatched start c.instant)
       (λ c h. (h.1, h.2)) changes are.each;
-  every = λ i change watched. are.every i (omega (arith, ints, le, watched.behind)) change watched;
+  every = λ i change watched. are.every i (omega (arith, ints, le, watched.follows)) change watched;
   ordered = are.ordered;
 }
 

@@ -31,11 +31,11 @@ use Rattle.croncheck_runs.proofs.Listings.{starts_calm, searchable}
 
 in_gap : (m : Meaning) (c : Change) (r : Option ℤ) → MatchOption r (IsNoneWithin m c.before c.after) (IsLeastWithin m c.before c.after) → MatchOption r (IsNoneIn m ranges.Gap c) (IsFirstIn m ranges.Gap c)
 in_gap m c None none = λ w lies. none w lies.0 lies.1
-in_gap m c (Some w) least = record { lies = (least.0.behind, least.1); scheduled = least.0.scheduled; least = λ v lies s. least.0.least v lies.0 s }
+in_gap m c (Some w) least = record { lies = (least.0.reached, least.1); scheduled = least.0.scheduled; least = λ v lies s. least.0.least v lies.0 s }
 
 in_repeated : (m : Meaning) (c : Change) (r : Option ℤ) → MatchOption r (IsNoneWithin m c.after c.before) (IsLeastWithin m c.after c.before) → MatchOption r (IsNoneIn m ranges.Repeated c) (IsFirstIn m ranges.Repeated c)
 in_repeated m c None none = λ w lies. none w lies.0 lies.1
-in_repeated m c (Some w) least = record { lies = (least.0.behind, least.1); scheduled = least.0.scheduled; least = λ v lies s. least.0.least v lies.0 s }
+in_repeated m c (Some w) least = record { lies = (least.0.reached, least.1); scheduled = least.0.scheduled; least = λ v lies s. least.0.least v lies.0 s }
 
 -- the first part of the conclusion shows `grind` what to match
 pub first_in : (m : Meaning) (from end : ℤ) (r : Option ℤ) → MatchOption r (IsNoneWithin m from end) (IsLeastWithin m from end)
@@ -70,9 +70,9 @@ date_of m w s =
     let date = is_date_matching m c.date in
     let hours = is_plain m.hours c.time.hour in
     let minutes = is_plain m.minutes c.time.minute in
-    let behind_seconds = (both_parts (is_plain m.seconds c.time.second) (minutes && (hours && date)) s.matches).1 in
-    let behind_minutes = (both_parts minutes (hours && date) behind_seconds).1 in
-    record { shown = s.shown; shows = s.shows; matches = (both_parts hours date behind_minutes).1 }
+    let after_seconds = (both_parts (is_plain m.seconds c.time.second) (minutes && (hours && date)) s.matches).1 in
+    let after_minutes = (both_parts minutes (hours && date) after_seconds).1 in
+    record { shown = s.shown; shows = s.shows; matches = (both_parts hours date after_minutes).1 }
 
 carried : (t : TableTime) (m : Meaning) (c : Change) (w : ℤ) → IsToldOf t c → IsFirstIn m ranges.Gap c w → is_fixed_time m ≡ true → Run (pattern_job m (table_moment t).zone) c.instant → CarriedRun (pattern_job m (table_moment t).zone) c.instant
 carried t m c w told first fixed run = elim run [
@@ -158,13 +158,13 @@ pub none_meets : (z : Zone) (start : ℤ) (runner : Runner) (m : Meaning) (range
 none_meets z start runner m range changes are none c w meets =
     are.every c.instant meets.change.changes meets.watched (λ k d inside. others z start runner m range changes (length changes) c w are none meets k d inside inside)
 
--- those behind the first that meets it come later
+-- those after the first that meets it come later
 later : (z : Zone) (start : ℤ) (changes : List Change) (n : ℕ) (i : ℤ) → AreChanges z start changes → n < length changes → ((d : Change) → i <ℤ (get_or changes n d).instant)
     → (k : ℕ) (d : Change) → n < k + 1 → k < length changes → ¬ ((get_or changes k d).instant ≡ i)
 later z start changes n i are inside before k d from within same = elim (cases_lt n k) [
-  | inl behind ↦ let o = are.ordered n k d behind within in let b = before d in omega (arith, ints, o, b, same)
-  | inr not_behind ↦
-      let at : n ≡ k = omega (arith, not_behind, from) in
+  | inl follows ↦ let o = are.ordered n k d follows within in let b = before d in omega (arith, ints, o, b, same)
+  | inr not_after ↦
+      let at : n ≡ k = omega (arith, not_after, from) in
       let b = before d in
       let here = subst (λ (j : ℕ). (get_or changes j d).instant ≡ i) (sym at) same in
       omega (arith, ints, b, here)

@@ -29,7 +29,7 @@ use Rattle.croncheck_runs.specs.declared.runs.Runner.TheVariants as runners
 
 -- ---- the changes of a clock
 
--- so many seconds behind a start changes are told: 372 days, since a change on a certain Sunday comes again after 364 or 371
+-- so many seconds after a start changes are told: 372 days, since a change on a certain Sunday comes again after 364 or 371
 abbrev pub watched_seconds : ℕ
 watched_seconds = 32_140_800
 
@@ -41,9 +41,9 @@ first_watched = neg_ℤ (pos 62_135_424_000)
 abbrev pub end_watched : ℤ
 end_watched = pos 95_617_411_200
 
--- an instant behind a start, by no more than 372 days, at which each clock shows a year from 1 to 4999
+-- an instant after a start, by no more than 372 days, at which each clock shows a year from 1 to 4999
 pub record IsWatched (start instant : ℤ) : Type 0 where
-  pub behind : start <ℤ instant
+  pub follows : start <ℤ instant
   pub within : instant ≤ℤ (start +ℤ pos watched_seconds)
   pub from : first_watched ≤ℤ instant
   pub before : instant <ℤ end_watched
@@ -54,7 +54,7 @@ pub record IsJump (z : Zone) (c : Change) : Type 0 where
   pub before_is : c.before ≡ z.reads (c.instant -ℤ pos 1) +ℤ pos 1
   pub after_is : c.after ≡ z.reads c.instant
 
--- the list has the watched changes behind a start, in order, and none is left out
+-- the list has the watched changes after a start, in order, and none is left out
 pub record AreChanges (z : Zone) (start : ℤ) (changes : List Change) : Type 0 where
   pub each : All (λ c. IsJump z c × IsWatched start c.instant) changes
   pub every : (i : ℤ) → IsChange z i → IsWatched start i → ¬ (All (λ c. ¬ (c.instant ≡ i)) changes)
@@ -123,7 +123,7 @@ IsFate z m ranges.Repeated c fates.Paused = ⊥
 
 -- ---- in cron
 
--- the minute that the clock shows where cron looks at the job for a second of the range: behind the gap, or as the second is shown again
+-- the minute that the clock shows where cron looks at the job for a second of the range: after the gap, or as the second is shown again
 abbrev pub minute_there : Range → Change → ℤ → ℤ
 minute_there ranges.Gap c w = minute_of c.after
 minute_there ranges.Repeated c w = minute_of w
@@ -146,15 +146,15 @@ fate_in_cron is_starred ranges.Gap c w = if is_started_there is_starred ranges.G
 fate_in_cron is_starred ranges.Repeated c w = if is_started_there is_starred ranges.Repeated c w then fates.Twice else fates.Once
 
 -- the same of a job, of which all hours may be named: one that is started once then isn't, for as long as the clock shows minutes again
-abbrev pub with_all_hours : Bool → Fate → Fate
-with_all_hours true fates.Once = fates.Paused
-with_all_hours all fate = fate
+abbrev pub fate_with_all_hours : Bool → Fate → Fate
+fate_with_all_hours true fates.Once = fates.Paused
+fate_with_all_hours all fate = fate
 
 -- ---- by what runs the line
 
 abbrev pub IsFateBy : Runner → Zone → Meaning → Range → Change → ℤ → Fate → Type 0
 IsFateBy runners.Croner z m range c w fate = IsFate z m range c fate
-IsFateBy (runners.Cron is_starred) z m range c w fate = fate ≡ with_all_hours (names_all_hours m) (fate_in_cron is_starred range c w)
+IsFateBy (runners.Cron is_starred) z m range c w fate = fate ≡ fate_with_all_hours (names_all_hours m) (fate_in_cron is_starred range c w)
 
 -- the first change that meets a job, at its first such second, and what becomes of it
 pub record IsMeeting (z : Zone) (start : ℤ) (runner : Runner) (m : Meaning) (range : Range) (g : Meeting) : Type 0 where
@@ -172,7 +172,7 @@ seconds_beside = 10_800
 abbrev pub IsDueWithin : Meaning → ℤ → ℤ → Type 0
 IsDueWithin m from end = (w : ℤ) × (from ≤ℤ w) × (w <ℤ end) × IsScheduled m w
 
--- a second is scheduled within three hours before a range, or within three hours behind it
+-- a second is scheduled within three hours before a range, or within three hours after it
 abbrev pub IsDueAround : Meaning → ℤ → ℤ → Type 0
 IsDueAround m first end = IsDueWithin m (first -ℤ pos seconds_beside) first ⊎ IsDueWithin m end (end +ℤ pos seconds_beside)
 
@@ -226,7 +226,7 @@ abbrev pub TellsFirst : Zone → ℤ → Runner → Meaning → Range → Option
 TellsFirst z start runner m range None = IsMetByNone z start runner m range
 TellsFirst z start runner m range (Some c) = IsMet z start runner m range c
 
--- what is told of the changes of a start's own clock behind it
+-- what is told of the changes of a start's own clock after it
 pub record AreMeetings (start : TableTime) (runner : Runner) (m : Meaning) (met : Meetings) : Type 0 where
   pub gap : TellsFirst (table_moment start).zone (table_moment start).instant runner m ranges.Gap met.gap
   pub repeated : TellsFirst (table_moment start).zone (table_moment start).instant runner m ranges.Repeated met.repeated

@@ -4,7 +4,7 @@ ghost use Rattle.croner_base.specs.TableZone.{table_moment};
 ghost use Rattle.croner_base.specs.Zone.{at_instant};
 ghost use Rattle.croner_pattern.specs.Schedule.{is_fixed_time};
 ghost use Rattle.croner.specs.Views.{job_of};
-ghost use Rattle.croncheck_changes.specs.Changes.{AreChangesFrom, IsNoStart, names_all_hours, is_starless, is_never_met, Meets, IsMeeting, IsFate, IsFateBy, with_all_hours};
+ghost use Rattle.croncheck_changes.specs.Changes.{AreChangesFrom, IsNoStart, names_all_hours, is_starless, is_never_met, Meets, IsMeeting, IsFate, IsFateBy, fate_with_all_hours};
 ghost use Rattle.croncheck_changes.specs.Private.Met.{IsToldOf, IsInYears, IsNoneIn, IsFirstIn};
 
 mod cron;
@@ -14,7 +14,7 @@ pub mod meetings;
 pub mod told;
 
 use crate::changes::cron::fate_in_cron;
-use crate::changes::found::changes_behind;
+use crate::changes::found::changes_after;
 use crate::changes::level::Level;
 use croncheck_runs::clock::Clock;
 use croncheck_runs::runs::Runner;
@@ -73,14 +73,14 @@ pub struct Meeting {
     pub fate: Fate,
 }
 
-/// The changes of a clock behind a start, up to 372 days behind it: a change on a certain Sunday comes again after 364 or 371.
+/// The changes of a clock after a start, up to 372 days after it: a change on a certain Sunday comes again after 364 or 371.
 ///
 /// Those count that come from 0001-01-03T00:00:00 UTC on and before 4999-12-30T00:00:00 UTC.
 #[derive(Drop)]
 pub struct Changes<'t> {
     /// The clock.
     pub clock: &'t Clock,
-    /// The start, behind which they lie: a second of that clock.
+    /// The start, after which they lie: a second of that clock.
     pub start: TableTime<'t>,
     level: Level,
     items: Vec<Change>,
@@ -89,7 +89,7 @@ pub struct Changes<'t> {
 }
 
 impl<'t> Changes<'t> {
-    /// The changes of a clock behind a start, which is given in seconds since 1970-01-01T00:00:00 UTC.
+    /// The changes of a clock after a start, which is given in seconds since 1970-01-01T00:00:00 UTC.
     ///
     /// The error is `InvalidTime` where no clock has this second, or `OutOfMemory`.
     pub fn of(alloc: Global, clock: &'t Clock, start: i64) -> Result<Changes<'t>, CronError>
@@ -99,7 +99,7 @@ impl<'t> Changes<'t> {
     {
         let time = TableTime::new(clock.table(), start)?;
         let level = Level::new(alloc);
-        let items = changes_behind(alloc, time)?;
+        let items = changes_after(alloc, time)?;
         Ok(Changes {
             clock,
             start: time,
@@ -157,7 +157,7 @@ impl<'t> Changes<'t> {
         match runner {
             Runner::Croner => self.fate_in_croner(job, range, change, second),
             Runner::Cron { is_starred } => {
-                with_all_hours(
+                fate_with_all_hours(
                     names_all_hours(job),
                     fate_in_cron(is_starred, range, change, second),
                 )
@@ -204,7 +204,7 @@ impl<'t> Changes<'t> {
     }
 }
 
-// What becomes of a second of the gap, by the next run behind the second before the change.
+// What becomes of a second of the gap, by the next run after the second before the change.
 fn fate_by(run: TableTime<'_>, change: Change) -> Fate
     ensures moved { run.entry.second ≡ change.instant → result ≡ Fate.Moved }
     ensures left_out { ¬ (run.entry.second ≡ change.instant) → result ≡ Fate.LeftOut }
@@ -234,8 +234,8 @@ fn is_starless(runner: Runner) -> bool
 }
 
 // What becomes of a job's second, where all hours may be named.
-fn with_all_hours(names_all: bool, fate: Fate) -> Fate
-    ensures { result ≡ with_all_hours names_all fate }
+fn fate_with_all_hours(names_all: bool, fate: Fate) -> Fate
+    ensures { result ≡ fate_with_all_hours names_all fate }
 {
     match fate {
         Fate::Once if names_all => Fate::Paused,

@@ -8,11 +8,13 @@ mod planning;
 
 use clap::ArgMatches;
 use clap::error::ErrorKind;
-use croncheck_files::names::{Asked, Places, STANDARD_INPUT, asked_at, asked_files, last_before};
+use croncheck_files::names::{
+    Asked, Places, STANDARD_INPUT, asked_file_at, asked_files, last_place_before,
+};
 use croncheck_moments::moment::{Moment, read_moment};
 use croncheck_output::escaped::push_shown;
 use croncheck_planner::planner::PlanAsked;
-use croncheck_report::allowed::{ALLOWABLE, nearest_to};
+use croncheck_report::allowed::{ALLOWABLE, nearest_name};
 use croncheck_report::settings::Tongue;
 use croner::parser::{CronParser, Seconds, Year};
 use croner_presets::Preset;
@@ -25,7 +27,7 @@ use std::alloc::{AllocError, Global};
 pub const USAGE: &str =
     "usage: croncheck [COMMAND] [OPTIONS] [FILE|PATTERN]... (croncheck --help lists the commands)";
 
-/// What `--version` tells behind the program's name: this project's version, the crate whose patterns it reads, and the licence.
+/// What `--version` tells after the program's name: this project's version, the crate whose patterns it reads, and the licence.
 const VERSION: &str = "0.4.0, patterns of croner 4.0.3
 MIT licence, in the file LICENSE";
 
@@ -62,8 +64,8 @@ const NO_DATE: &str = "there is no such date: look at its month and its day";
 /// How many bytes the form of a date has.
 const DATE_LENGTH: usize = 10;
 
-/// The place of standard input where no file is named: it stands behind all words.
-const BEHIND_ALL: usize = usize::MAX;
+/// The place of standard input where no file is named: it stands after all words.
+const AFTER_ALL: usize = usize::MAX;
 
 /// What is told where standard input has a name, and isn't read.
 const NAMES_NOTHING: &str =
@@ -194,7 +196,7 @@ pub fn read_call<'w>(alloc: Global, words: &'w [String]) -> Result<Call<'w>, NoC
     let program = program(alloc)?;
     match program.try_get_matches_from(words) {
         Ok(matches) => call_with_verb(alloc, &matches),
-        Err(error) => Err(told(alloc, &error)?),
+        Err(error) => Err(told_of_error(alloc, &error)?),
     }
 }
 
@@ -205,17 +207,17 @@ fn call_with_verb<'w>(alloc: Global, matches: &ArgMatches<'w>) -> Result<Call<'w
     ensures told { IfOk result (λ call. TellsRuns call.verb call.span) }
     ensures previous { IfOk result (λ call. AreInRange call.previous) }
 {
-    if let Some((name, behind)) = matches.subcommand() {
-        return call_of(alloc, verb_of(name).unwrap_or(Verb::Check), behind);
+    if let Some((name, matched)) = matches.subcommand() {
+        return call_of(alloc, verb_of(name).unwrap_or(Verb::Check), matched);
     }
     let call = call_of(alloc, Verb::Check, matches)?;
     match first_verb(call.files.as_slice()) {
-        Some(name) => Err(misplaced(alloc, name)),
+        Some(name) => Err(told_of_misplaced_verb(alloc, name)),
         None => Ok(call),
     }
 }
 
-// The first of some files, where it has the name of a verb, which stands behind an option then.
+// The first of some files, where it has the name of a verb, which stands after an option then.
 fn first_verb<'w>(files: &[Asked<'w>]) -> Option<&'w str> {
     match files.first() {
         Some(file) if verb_of(file.word).is_some() => Some(file.word),
@@ -223,39 +225,39 @@ fn first_verb<'w>(files: &[Asked<'w>]) -> Option<&'w str> {
     }
 }
 
-// What is told of a verb behind an option.
-fn misplaced(alloc: Global, name: &str) -> NoCall {
-    told_misuse(format!(in alloc;
+// What is told of a verb after an option.
+fn told_of_misplaced_verb(alloc: Global, name: &str) -> NoCall {
+    told_by_text(format!(in alloc;
         "error: the command '{name}' stands in front of the options; a file of that name is ./{name}\n"
     ))
 }
 
 // What is told where there are no matches.
-fn told(alloc: Global, error: &clap::Error) -> Result<NoCall, AllocError> {
+fn told_of_error(alloc: Global, error: &clap::Error) -> Result<NoCall, AllocError> {
     let text = format!(in alloc; "{error}")?;
     match error.kind() {
         ErrorKind::DisplayHelp | ErrorKind::DisplayVersion => Ok(NoCall::Asked(text)),
         ErrorKind::OutOfMemory => Ok(NoCall::OutOfMemory),
-        ErrorKind::UnknownArgument => unknown(alloc, text.as_str()),
-        _ => Ok(NoCall::Misused(head(alloc, text.as_str())?)),
+        ErrorKind::UnknownArgument => told_of_unknown_option(alloc, text.as_str()),
+        _ => Ok(NoCall::Misused(head_of_message(alloc, text.as_str())?)),
     }
 }
 
 // What is told of an option that a verb doesn't have, in place of what this message says: the verbs that have it.
-fn unknown(alloc: Global, message: &str) -> Result<NoCall, AllocError> {
+fn told_of_unknown_option(alloc: Global, message: &str) -> Result<NoCall, AllocError> {
     let option = message.split('\'').nth(1).unwrap_or("");
     let verb = verb_with(option);
     match verbs_with(option) {
-        Some(verbs) => Ok(told_misuse(format!(in alloc;
+        Some(verbs) => Ok(told_by_text(format!(in alloc;
             "error: {option} is an option of {verbs}: write such a command in front, as croncheck {verb} {option}\n"
         ))),
-        None => Ok(NoCall::Misused(head(alloc, message)?)),
+        None => Ok(NoCall::Misused(head_of_message(alloc, message)?)),
     }
 }
 
-// The paragraphs of a message up to the one on the usage, as they are shown. That a word may be a value behind `--` is left out: here it
+// The paragraphs of a message up to the one on the usage, as they are shown. That a word may be a value after `--` is left out: here it
 // would be a file or a pattern.
-fn head(alloc: Global, message: &str) -> Result<String, AllocError> {
+fn head_of_message(alloc: Global, message: &str) -> Result<String, AllocError> {
     let end = message.find("\n\nUsage:").unwrap_or(message.len());
     let end = message.find("\n\nFor more").unwrap_or(end).min(end);
     let end = message.find("\n\n  tip: to pass").unwrap_or(end).min(end);
@@ -294,7 +296,7 @@ fn call_of<'w>(alloc: Global, verb: Verb, matches: &ArgMatches<'w>) -> Result<Ca
         color: color_asked(matches),
         is_strict: matches.get_flag("strict"),
         compares_jobs: matches.get_flag("same-job"),
-        allowed: allowed(alloc, matches)?,
+        allowed: allowed_names(alloc, matches)?,
         users: matches.get_str("users"),
         root: matches.get_str("root"),
         files,
@@ -305,12 +307,12 @@ fn call_of<'w>(alloc: Global, verb: Verb, matches: &ArgMatches<'w>) -> Result<Ca
 }
 
 // The names of warnings that are allowed.
-fn allowed<'w>(alloc: Global, matches: &ArgMatches<'w>) -> Result<Vec<&'w str>, NoCall> {
+fn allowed_names<'w>(alloc: Global, matches: &ArgMatches<'w>) -> Result<Vec<&'w str>, NoCall> {
     let mut names = Vec::new(alloc);
     if let Some(given) = matches.get_strs("allow") {
         for name in given {
             if !ALLOWABLE.contains(name) {
-                return Err(not_allowed(alloc, name));
+                return Err(told_of_name_not_allowed(alloc, name));
             }
         }
         names.extend_from_slice(given)?;
@@ -319,12 +321,12 @@ fn allowed<'w>(alloc: Global, matches: &ArgMatches<'w>) -> Result<Vec<&'w str>, 
 }
 
 // What is told of a name that no warning has which may be allowed.
-fn not_allowed(alloc: Global, name: &str) -> NoCall {
-    told_misuse(not_allowed_text(alloc, name))
+fn told_of_name_not_allowed(alloc: Global, name: &str) -> NoCall {
+    told_by_text(not_allowed_text(alloc, name))
 }
 
 fn not_allowed_text(alloc: Global, name: &str) -> Result<String, AllocError> {
-    let nearest = nearest_to(alloc, name.as_bytes())?;
+    let nearest = nearest_name(alloc, name.as_bytes())?;
     let mut text = String::from_str(alloc, "error: invalid value '")?;
     push_shown(&mut text, name.as_bytes())?;
     write!(
@@ -368,14 +370,14 @@ fn named_files<'w>(
         system: places(matches, "system"),
         patterns: places(matches, "patterns"),
     };
-    if let Some(refusal) = misplaced_option(alloc, matches, options, words) {
+    if let Some(refusal) = told_of_misplaced_option(alloc, matches, options, words) {
         return Err(refusal);
     }
     let stdin_name = matches.get_str("stdin-name").unwrap_or(STANDARD_INPUT);
     let mut files = asked_files(alloc, options, stdin_name, words, places(matches, "file"))?;
     if words.is_empty() && matches.get_str("root").is_none() {
         files.reserve(1)?;
-        files.push_reserved(asked_at(options, stdin_name, BEHIND_ALL, STANDARD_INPUT));
+        files.push_reserved(asked_file_at(options, stdin_name, AFTER_ALL, STANDARD_INPUT));
     }
     Ok(files)
 }
@@ -386,37 +388,37 @@ fn places<'m>(matches: &'m ArgMatches<'_>, id: &str) -> &'m [usize] {
 }
 
 // What is told of an option that no file has anything of, where files are named.
-fn misplaced_option(
+fn told_of_misplaced_option(
     alloc: Global,
     matches: &ArgMatches<'_>,
     options: Places<'_>,
     words: &[&str],
 ) -> Option<NoCall> {
     if let Some(_) = matches.get_str("root") {
-        return beside_root(alloc, matches, options, words);
+        return told_beside_root(alloc, matches, options, words);
     }
     if words.is_empty() {
         return None;
     }
-    let last = last_before(BEHIND_ALL, places(matches, "file"));
-    if last < last_before(BEHIND_ALL, options.user) {
-        return Some(behind_files(alloc, "--user"));
+    let last = last_place_before(AFTER_ALL, places(matches, "file"));
+    if last < last_place_before(AFTER_ALL, options.user) {
+        return Some(told_of_option_after_files(alloc, "--user"));
     }
-    if last < last_before(BEHIND_ALL, options.system) {
-        return Some(behind_files(alloc, "--system"));
+    if last < last_place_before(AFTER_ALL, options.system) {
+        return Some(told_of_option_after_files(alloc, "--system"));
     }
-    if last < last_before(BEHIND_ALL, options.patterns) {
-        return Some(behind_files(alloc, "--patterns"));
+    if last < last_place_before(AFTER_ALL, options.patterns) {
+        return Some(told_of_option_after_files(alloc, "--patterns"));
     }
     let has_name = matches.get_str("stdin-name").is_some();
     if has_name && !words.contains(&STANDARD_INPUT) {
-        return Some(told_misuse(String::from_str(alloc, NAMES_NOTHING)));
+        return Some(told_by_text(String::from_str(alloc, NAMES_NOTHING)));
     }
     None
 }
 
 // What is told of a file, or of an option that is of files, beside the folder of a machine.
-fn beside_root(
+fn told_beside_root(
     alloc: Global,
     matches: &ArgMatches<'_>,
     options: Places<'_>,
@@ -429,17 +431,17 @@ fn beside_root(
     if words.is_empty() && !has_kind && !has_name {
         return None;
     }
-    Some(told_misuse(String::from_str(alloc, BESIDE_ROOT)))
+    Some(told_by_text(String::from_str(alloc, BESIDE_ROOT)))
 }
 
-// What is told of an option that stands behind all files.
-fn behind_files(alloc: Global, option: &str) -> NoCall {
-    told_misuse(format!(in alloc;
+// What is told of an option that stands after all files.
+fn told_of_option_after_files(alloc: Global, option: &str) -> NoCall {
+    told_by_text(format!(in alloc;
         "error: {option} holds for the files behind it, and stands behind all of them: write it in front of them\n"
     ))
 }
 
-fn told_misuse(text: Result<String, AllocError>) -> NoCall {
+fn told_by_text(text: Result<String, AllocError>) -> NoCall {
     match text {
         Ok(text) => NoCall::Misused(text),
         Err(_) => NoCall::OutOfMemory,
@@ -477,7 +479,7 @@ fn read_count(alloc: Global, word: &str) -> Result<Span, NoCall>
 {
     match word.parse::<u32>() {
         Ok(count) if count <= MOST_RUNS => Ok(Span::Count(count)),
-        _ => Err(misused(alloc, "--runs <N>", word, "write a number from 0 to 1000")),
+        _ => Err(told_of_misuse(alloc, "--runs <N>", word, "write a number from 0 to 1000")),
     }
 }
 
@@ -488,7 +490,7 @@ fn previous_of(alloc: Global, matches: &ArgMatches<'_>) -> Result<Option<u32>, N
     match matches.get_str("previous") {
         Some(word) => match word.parse::<u32>() {
             Ok(count) if 1 <= count && count <= MOST_RUNS => Ok(Some(count)),
-            _ => Err(misused(
+            _ => Err(told_of_misuse(
                 alloc,
                 "--previous <N>",
                 word,
@@ -506,7 +508,7 @@ fn moment(alloc: Global, option: &str, word: &str) -> Result<Moment, NoCall>
 {
     match read_moment(alloc, word)? {
         Some(moment) => Ok(moment),
-        None => Err(misused(alloc, option, word, form_of_moment(word))),
+        None => Err(told_of_misuse(alloc, option, word, form_of_moment(word))),
     }
 }
 
@@ -542,8 +544,8 @@ fn fits_at(place: usize, byte: u8) -> bool {
 }
 
 // What is told of the word of an option that is not of its form.
-fn misused(alloc: Global, option: &str, word: &str, form: &str) -> NoCall {
-    told_misuse(misuse(alloc, option, word, form))
+fn told_of_misuse(alloc: Global, option: &str, word: &str, form: &str) -> NoCall {
+    told_by_text(misuse(alloc, option, word, form))
 }
 
 fn misuse(alloc: Global, option: &str, word: &str, form: &str) -> Result<String, AllocError> {
@@ -571,7 +573,7 @@ fn width(alloc: Global, matches: &ArgMatches<'_>) -> Result<Option<usize>, NoCal
     match matches.get_str("width") {
         Some(word) => match word.parse::<usize>() {
             Ok(width) if LEAST_WIDTH <= width && width <= MOST_WIDTH => Ok(Some(width)),
-            _ => Err(misused(alloc, "--width <N>", word, "write a number from 20 to 1000")),
+            _ => Err(told_of_misuse(alloc, "--width <N>", word, "write a number from 20 to 1000")),
         },
         None => Ok(None),
     }

@@ -54,8 +54,8 @@ a_crontab = refl
 
 -- ---- paths
 
-behind_a_slash : path_in (codes "cron.d/") (codes "web") ≡ codes "cron.d/web"
-behind_a_slash = refl
+after_a_slash : path_in (codes "cron.d/") (codes "web") ≡ codes "cron.d/web"
+after_a_slash = refl
 
 without_a_slash : path_in (codes "cron.d") (codes "web") ≡ codes "cron.d/web"
 without_a_slash = refl

@@ -2,7 +2,7 @@
 use Rattle.std.proofs.Common.{◌≡◌, [], ◌∷◌, true, false, Some, None, codes, refl}
 use Rattle.std.specs.Path.{path_file_name, path_parent, split_last_component, trim_trailing, rsplit_once}
 use Rattle.crontab.specs.declared.line.Dialect.TheVariants as dialects
-use Rattle.croncheck_files.specs.Names.{Options, is_of_system, last_before, kind_at, dialect_of, name_shown}
+use Rattle.croncheck_files.specs.Names.{Options, is_of_system, last_place_before, kind_at, dialect_of, name_shown}
 
 -- ---- by their names
 
@@ -10,14 +10,14 @@ etc_crontab : is_of_system (codes "/etc/crontab") ≡ true
 unfolding path_file_name path_parent split_last_component trim_trailing rsplit_once
 etc_crontab = refl
 
--- in the folder of a package, behind two slashes, and on another machine
+-- in the folder of a package, after two slashes, and on another machine
 in_a_checkout : is_of_system (codes "etc/crontab") ≡ true
 unfolding path_file_name path_parent split_last_component trim_trailing rsplit_once
 in_a_checkout = refl
 
-behind_two_slashes : is_of_system (codes "//etc//crontab") ≡ true
+after_two_slashes : is_of_system (codes "//etc//crontab") ≡ true
 unfolding path_file_name path_parent split_last_component trim_trailing rsplit_once
-behind_two_slashes = refl
+after_two_slashes = refl
 
 of_another_machine : is_of_system (codes "web1:/etc/crontab") ≡ true
 unfolding path_file_name path_parent split_last_component trim_trailing rsplit_once
@@ -53,20 +53,20 @@ options = record { user = 4 ∷ []; system = 2 ∷ []; patterns = 6 ∷ [] }
 in_front_of_all : kind_at options 1 ≡ None
 in_front_of_all = refl
 
-behind_system : kind_at options 3 ≡ Some dialects.System
-behind_system = refl
+after_system : kind_at options 3 ≡ Some dialects.System
+after_system = refl
 
-behind_user : kind_at options 5 ≡ Some dialects.User
-behind_user = refl
+after_user : kind_at options 5 ≡ Some dialects.User
+after_user = refl
 
-behind_patterns : kind_at options 7 ≡ Some dialects.Patterns
-behind_patterns = refl
+after_patterns : kind_at options 7 ≡ Some dialects.Patterns
+after_patterns = refl
 
 -- `--system` once more at 8
-the_last_counts : last_before 9 (2 ∷ 8 ∷ []) ≡ 8
+the_last_counts : last_place_before 9 (2 ∷ 8 ∷ []) ≡ 8
 the_last_counts = refl
 
-none_in_front : last_before 1 (2 ∷ 8 ∷ []) ≡ 0
+none_in_front : last_place_before 1 (2 ∷ 8 ∷ []) ≡ 0
 none_in_front = refl
 
 -- a file of the system by its name, and one that an option says to be a user's

@@ -42,16 +42,16 @@ abbrev pub places_seen : Places → Options
 places_seen p = record { user = p.user.now; system = p.system.now; patterns = p.patterns.now }
 
 -- the later of two places, if the second stands in front of this one
-abbrev pub later : ℕ → ℕ → ℕ → ℕ
-later place last other = if nat_lt other place then max last other else last
+abbrev pub later_place : ℕ → ℕ → ℕ → ℕ
+later_place place last other = if nat_lt other place then max last other else last
 
 -- the last of some places in front of one, and 0 where there is none
-abbrev pub last_before : ℕ → List ℕ → ℕ
-last_before place places = fold (later place) 0 places
+abbrev pub last_place_before : ℕ → List ℕ → ℕ
+last_place_before place places = fold (later_place place) 0 places
 
 -- of three options the first stands last in front of a file, which stands at this place
 abbrev pub is_last : ℕ → List ℕ → List ℕ → List ℕ → Bool
-is_last place wanted others more = nat_lt (last_before place others) (last_before place wanted) && nat_lt (last_before place more) (last_before place wanted)
+is_last place wanted others more = nat_lt (last_place_before place others) (last_place_before place wanted) && nat_lt (last_place_before place more) (last_place_before place wanted)
 
 -- what the last option in front of a place says
 abbrev pub kind_at : Options → ℕ → Option Dialect
@@ -82,10 +82,10 @@ abbrev pub name_shown : List ℕ → List ℕ → List ℕ
 name_shown stdin_name word = if bytes_eq word (codes "-") then stdin_name else word
 
 -- the file of a word at this place
-abbrev pub asked_at : Options → List ℕ → ℕ → List ℕ → File
-asked_at o stdin_name place word = record { word = word; name = name_shown stdin_name word; kind = kind_at o place }
+abbrev pub asked_file_at : Options → List ℕ → ℕ → List ℕ → File
+asked_file_at o stdin_name place word = record { word = word; name = name_shown stdin_name word; kind = kind_at o place }
 
 -- the files of some words, in their order: the first stands at the place of this number, and each further one at the next
 abbrev pub asked_files : Options → List ℕ → List ℕ → ℕ → List (List ℕ) → List File
 asked_files o stdin_name places k [] = []
-asked_files o stdin_name places k (word ∷ words) = asked_at o stdin_name (get_or places k 0) word ∷ asked_files o stdin_name places (k + 1) words
+asked_files o stdin_name places k (word ∷ words) = asked_file_at o stdin_name (get_or places k 0) word ∷ asked_files o stdin_name places (k + 1) words

@@ -1,7 +1,7 @@
 //! Which files a call asks for, and how each is read: by the options in front of it, and else by its name.
 ghost use Rattle.std.specs.Prelude.{◌≡◌, get_or, map, option_map, IfOk};
 ghost use Rattle.std.specs.Path.{path_bytes};
-ghost use Rattle.croncheck_files.specs.Names.{places_seen, asked_seen, is_text, folder_name, is_of_system, dialect_by_name, last_before, later, kind_at, name_shown, asked_at, asked_files, dialect_of};
+ghost use Rattle.croncheck_files.specs.Names.{places_seen, asked_seen, is_text, folder_name, is_of_system, dialect_by_name, last_place_before, later_place, kind_at, name_shown, asked_file_at, asked_files, dialect_of};
 
 use crontab::line::Dialect;
 use std::alloc::{AllocError, Global};
@@ -61,7 +61,7 @@ pub fn asked_files<'w>(
 {
     let mut files = Vec::new(alloc);
     for k in 0..words.len() {
-        let file = asked_at(options, stdin_name, place_at(places, k), words[k]);
+        let file = asked_file_at(options, stdin_name, place_at(places, k), words[k]);
         files.push(file)?;
     }
     Ok(files)
@@ -74,13 +74,13 @@ fn place_at(places: &[usize], k: usize) -> usize
 }
 
 /// The file of a word that stands at this place.
-pub fn asked_at<'w>(
+pub fn asked_file_at<'w>(
     options: Places<'_>,
     stdin_name: &'w str,
     place: usize,
     word: &'w str,
 ) -> Asked<'w>
-    ensures { asked_seen result ≡ asked_at (places_seen options.entry) stdin_name.entry.now place word.entry.now }
+    ensures { asked_seen result ≡ asked_file_at (places_seen options.entry) stdin_name.entry.now place word.entry.now }
 {
     Asked {
         word,
@@ -104,9 +104,9 @@ fn name_shown<'w>(stdin_name: &'w str, word: &'w str) -> &'w str
 fn kind_at(options: Places<'_>, place: usize) -> Option<Dialect>
     ensures { result ≡ kind_at (places_seen options.entry) place }
 {
-    let user = last_before(place, options.user);
-    let system = last_before(place, options.system);
-    let patterns = last_before(place, options.patterns);
+    let user = last_place_before(place, options.user);
+    let system = last_place_before(place, options.system);
+    let patterns = last_place_before(place, options.patterns);
     if user < system && patterns < system {
         Some(Dialect::System)
     } else if user < patterns && system < patterns {
@@ -119,19 +119,19 @@ fn kind_at(options: Places<'_>, place: usize) -> Option<Dialect>
 }
 
 /// The last of some places in front of one, and 0 where there is none.
-pub fn last_before(place: usize, places: &[usize]) -> usize
-    ensures { result ≡ last_before place places.now }
+pub fn last_place_before(place: usize, places: &[usize]) -> usize
+    ensures { result ≡ last_place_before place places.now }
 {
     let mut last = 0;
     for k in 0..places.len() {
-        last = later(place, last, places[k]);
+        last = later_place(place, last, places[k]);
     }
     last
 }
 
 // The later of two places, if the second stands in front of this one.
-fn later(place: usize, last: usize, other: usize) -> usize
-    ensures { result ≡ later place last other }
+fn later_place(place: usize, last: usize, other: usize) -> usize
+    ensures { result ≡ later_place place last other }
 {
     if other < place { last.max(other) } else { last }
 }

@@ -3,7 +3,7 @@ use Rattle.std.proofs.Common.{◌≡◌, refl, true, false, ℕ, Bool, List, [],
 use Rattle.croner_presets.specs.declared.difference.Difference.TheVariants as differences
 use Rattle.croner_presets.specs.declared.preset.Preset.TheVariants as presets
 use Rattle.croncheck_warnings.specs.declared.warnings.Warning.TheVariants as warnings
-use Rattle.croncheck_findings.specs.Findings.{is_of_preset, named, place_of, findings_of_line, findings_of_file, Said}
+use Rattle.croncheck_findings.specs.Findings.{is_of_preset, finding_without_field, place_of, findings_of_line, findings_of_file, Said}
 use Rattle.croncheck_warnings.specs.Presets.{reading}
 use Rattle.std.specs.Prelude.{codes}
 use Rattle.croner.specs.declared.parser.fault.PatternField.TheVariants as fields
@@ -16,14 +16,14 @@ use Rattle.croncheck_report.specs.declared.report.Report.TheVariants as reports
 use Rattle.croncheck_report.specs.declared.report.SettingReport.{SettingReport}
 use Rattle.croncheck_report.specs.declared.report.Why.TheVariants as whys
 use Rattle.croncheck_report.specs.FileSeen.{File, unread}
-use Rattle.croncheck_report.specs.Report.{report_behind}
+use Rattle.croncheck_report.specs.Report.{report_after_line}
 
 abbrev extent : ℕ → ℕ → Extent
 extent start end = record { start = start; end = end }
 
 -- ---- places
 
--- the times of a job behind two blanks
+-- the times of a job after two blanks
 the_times : place_of (codes "  0 5 * * 1 x") (codes "0 5 * * 1") None ≡ extent 2 11
 the_times = refl
 
@@ -42,13 +42,13 @@ the_weekdays = refl
 the_seconds : place_of (codes "*/7 0 5 * * 1") (codes "*/7 0 5 * * 1") (Some fields.Seconds) ≡ extent 0 3
 the_seconds = refl
 
-the_hours_behind_seconds : place_of (codes "0 0 */9 * * 1") (codes "0 0 */9 * * 1") (Some fields.Hours) ≡ extent 4 7
-the_hours_behind_seconds = refl
+the_hours_after_seconds : place_of (codes "0 0 */9 * * 1") (codes "0 0 */9 * * 1") (Some fields.Hours) ≡ extent 4 7
+the_hours_after_seconds = refl
 
 the_year : place_of (codes "0 0 5 * * 1 */5001") (codes "0 0 5 * * 1 */5001") (Some fields.Year) ≡ extent 12 18
 the_year = refl
 
--- a carriage return behind the last field
+-- a carriage return after the last field
 the_weekdays_of_dos : place_of (codes "0 0 * * 1\r") (codes "0 0 * * 1") (Some fields.Weekday) ≡ extent 8 9
 the_weekdays_of_dos = refl
 
@@ -61,26 +61,26 @@ a_blank_line = refl
 abbrev setting_of : Bool → SettingReport
 setting_of is_zone = record { is_zone = is_zone; is_not_expanded = false; is_hiding = false }
 
-a_zone : findings_of_line (codes " TZ=UTC") (reports.Setting (setting_of true) true) ≡ named severities.Warning (codes "no-zone") (extent 1 7) ∷ []
+a_zone : findings_of_line (codes " TZ=UTC") (reports.Setting (setting_of true) true) ≡ finding_without_field severities.Warning (codes "no-zone") (extent 1 7) ∷ []
 a_zone = refl
 
 -- a setting that changes no time, whose line feed is missing: that is found of the file
 a_setting : findings_of_line (codes "A=1") (reports.Setting (setting_of false) false) ≡ []
 a_setting = refl
 
--- minutes with an empty part, behind a blank: a refusal and a note
+-- minutes with an empty part, after a blank: a refusal and a note
 a_refused_line : findings_of_line (codes " 5,,10 * * * * x") (reports.Refused 1 6 (whys.Cron faults.Minutes))
-    ≡ named severities.Error (codes "minutes") (extent 1 6) ∷ named severities.Note (codes "empty-part") (extent 1 6) ∷ []
+    ≡ finding_without_field severities.Error (codes "minutes") (extent 1 6) ∷ finding_without_field severities.Note (codes "empty-part") (extent 1 6) ∷ []
 a_refused_line = refl
 
--- the same behind a line that ends in a backslash
-behind_a_backslash : report_behind true (reports.Refused 1 6 (whys.Cron faults.Minutes)) ≡ reports.Refused 1 6 (whys.Behind faults.Minutes)
-behind_a_backslash = refl
+-- the same after a line that ends in a backslash
+after_a_backslash : report_after_line true (reports.Refused 1 6 (whys.Cron faults.Minutes)) ≡ reports.Refused 1 6 (whys.AfterOpenLine faults.Minutes)
+after_a_backslash = refl
 
-behind_another_line : report_behind false (reports.Refused 1 6 (whys.Cron faults.Minutes)) ≡ reports.Refused 1 6 (whys.Cron faults.Minutes)
-behind_another_line = refl
+after_another_line : report_after_line false (reports.Refused 1 6 (whys.Cron faults.Minutes)) ≡ reports.Refused 1 6 (whys.Cron faults.Minutes)
+after_another_line = refl
 
-the_same_of_the_latter : findings_of_line (codes " 5,,10 * * * * x") (reports.Refused 1 6 (whys.Behind faults.Minutes))
+the_same_of_the_latter : findings_of_line (codes " 5,,10 * * * * x") (reports.Refused 1 6 (whys.AfterOpenLine faults.Minutes))
     ≡ findings_of_line (codes " 5,,10 * * * * x") (reports.Refused 1 6 (whys.Cron faults.Minutes))
 the_same_of_the_latter = refl
 

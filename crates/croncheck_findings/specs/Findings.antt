@@ -11,7 +11,7 @@ use Rattle.crontab.specs.declared.line.Dialect.TheVariants as dialects
 use Rattle.crontab.specs.declared.line.Fault.{Fault}
 use Rattle.crontab.specs.declared.line.Fault.TheVariants as faults
 use Rattle.crontab.specs.declared.notes.Note.{Note}
-use Rattle.crontab.specs.Bytes.{front, behind}
+use Rattle.crontab.specs.Bytes.{front, text_after}
 use Rattle.crontab.specs.Line.{next}
 use Rattle.crontab.specs.Notes.{note_name}
 use Rattle.croncheck_changes.specs.declared.changes.meetings.Met.{Met}
@@ -57,8 +57,8 @@ abbrev pub findings_seen : List Finding → List Found
 findings_seen all = map finding_seen all
 
 -- one of no field
-abbrev pub named : Severity → List ℕ → Extent → Found
-named severity name extent = record { severity = severity; name = name; field = None; extent = extent }
+abbrev pub finding_without_field : Severity → List ℕ → Extent → Found
+finding_without_field severity name extent = record { severity = severity; name = name; field = None; extent = extent }
 
 -- a list of one, or of none
 abbrev pub only_if : Bool → Found → List Found
@@ -66,11 +66,11 @@ only_if is_so f = if is_so then f ∷ [] else []
 
 -- ---- places
 
--- a line behind its blanks
+-- a line after its blanks
 abbrev pub content_extent : List ℕ → Extent
 content_extent line = record { start = blanks_of line; end = length line }
 
--- the times of a line, which stand behind its blanks
+-- the times of a line, which stand after its blanks
 abbrev pub times_extent : List ℕ → List ℕ → Extent
 times_extent line times = record { start = blanks_of line; end = blanks_of line + length times }
 
@@ -79,22 +79,22 @@ abbrev pub has_seconds : List ℕ → Bool
 has_seconds times = not (length (next (next (next (next (next times))))) == 0)
 
 -- a text from a field on, where it begins with the minutes
-abbrev pub from_field : PatternField → List ℕ → List ℕ
-from_field fields.Seconds text = text
-from_field fields.Minutes text = text
-from_field fields.Hours text = next text
-from_field fields.DayOfMonth text = next (next text)
-from_field fields.Month text = next (next (next text))
-from_field fields.Weekday text = next (next (next (next text)))
-from_field fields.Year text = next (next (next (next (next text))))
+abbrev pub text_from_field : PatternField → List ℕ → List ℕ
+text_from_field fields.Seconds text = text
+text_from_field fields.Minutes text = text
+text_from_field fields.Hours text = next text
+text_from_field fields.DayOfMonth text = next (next text)
+text_from_field fields.Month text = next (next (next text))
+text_from_field fields.Weekday text = next (next (next (next text)))
+text_from_field fields.Year text = next (next (next (next (next text))))
 
 abbrev pub is_of_seconds : PatternField → Bool
 is_of_seconds fields.Seconds = true
 is_of_seconds other = false
 
 -- the same, where seconds may stand in front
-abbrev pub from_place : Bool → PatternField → List ℕ → List ℕ
-from_place after_seconds field text = from_field field (if after_seconds && not (is_of_seconds field) then next text else text)
+abbrev pub text_from_place : Bool → PatternField → List ℕ → List ℕ
+text_from_place after_seconds field text = text_from_field field (if after_seconds && not (is_of_seconds field) then next text else text)
 
 -- the word with which the rest of a line begins. No field has an equals sign
 abbrev pub word_extent : List ℕ → List ℕ → Extent
@@ -102,7 +102,7 @@ word_extent line rest = record { start = length line - length rest; end = (lengt
 
 -- a field of a line with these times
 abbrev pub field_extent : List ℕ → List ℕ → PatternField → Extent
-field_extent line times field = word_extent line (from_place (has_seconds times) field (behind kinds.Blank line))
+field_extent line times field = word_extent line (text_from_place (has_seconds times) field (text_after kinds.Blank line))
 
 -- no other white space than spaces and tabs stands in a text
 abbrev pub is_plain : List ℕ → Bool
@@ -131,15 +131,15 @@ fault_kind faults.LongCommand = codes "long-command"
 -- the word for why a line is refused
 abbrev pub refusal_kind : Why → List ℕ
 refusal_kind (whys.Cron fault) = fault_kind fault
-refusal_kind (whys.Behind fault) = fault_kind fault
+refusal_kind (whys.AfterOpenLine fault) = fault_kind fault
 refusal_kind (whys.Pattern fault taken) = codes "pattern"
 refusal_kind (whys.Crate e) = codes "text"
 refusal_kind whys.NotText = codes "not-utf-8"
 refusal_kind whys.NoUser = codes "unknown-user"
 
 -- a warning of a line with these times, at the place of its field, if it has one
-abbrev pub of_warning : List ℕ → List ℕ → Warning → Found
-of_warning line times w = record {
+abbrev pub finding_of_warning : List ℕ → List ℕ → Warning → Found
+finding_of_warning line times w = record {
   severity = severities.Warning;
   name = warning_name w;
   field = option_map field_name (field_of w);
@@ -147,47 +147,47 @@ of_warning line times w = record {
 }
 
 -- a note of a line's bytes
-abbrev pub of_note : Extent → Note → Found
-of_note extent note = named severities.Note (note_name note) extent
+abbrev pub finding_of_note : Extent → Note → Found
+finding_of_note extent note = finding_without_field severities.Note (note_name note) extent
 
 -- `preset`: what another program takes of a pattern that is refused
-abbrev pub of_reading : Extent → Reading → Found
-of_reading extent reading = named severities.Note (codes "preset") extent
+abbrev pub finding_of_reading : Extent → Reading → Found
+finding_of_reading extent reading = finding_without_field severities.Note (codes "preset") extent
 
 -- the warning of a change of the clock
-abbrev pub of_change : Extent → Met → Found
-of_change extent c = named severities.Warning (name_of c.meeting.range c.meeting.fate) extent
+abbrev pub finding_of_change : Extent → Met → Found
+finding_of_change extent c = finding_without_field severities.Warning (name_of c.meeting.range c.meeting.fate) extent
 
 -- the same, where a change meets the job and there is one
 abbrev pub of_range : Extent → Option Met → List Found
 of_range extent None = []
-of_range extent (Some c) = only_if (is_warned c) (of_change extent c)
+of_range extent (Some c) = only_if (is_warned c) (finding_of_change extent c)
 
 -- that of the gap stands first
 abbrev pub of_meetings : Extent → Meetings → List Found
 of_meetings extent met = of_range extent met.gap ++ of_range extent met.repeated
 
 -- `not-needed`: a name that is allowed and doesn't stand at the job
-abbrev pub of_unneeded : Extent → Bor (List ℕ) → Found
-of_unneeded extent name = named severities.Warning (codes "not-needed") extent
+abbrev pub finding_of_unneeded : Extent → Bor (List ℕ) → Found
+finding_of_unneeded extent name = finding_without_field severities.Warning (codes "not-needed") extent
 
 -- `unknown-name`: a comment allows a name that no warning has
-abbrev pub of_unknown_name : List ℕ → Found
-of_unknown_name line = named severities.Warning (codes "unknown-name") (content_extent line)
+abbrev pub finding_of_unknown_name : List ℕ → Found
+finding_of_unknown_name line = finding_without_field severities.Warning (codes "unknown-name") (content_extent line)
 
 -- what is found of the line of a job: its notes, its own warnings, those of changes of the clock, an earlier job that is the same, and the names
 -- that are allowed in vain
 abbrev pub findings_of_job : List ℕ → JobReport → List Found
 findings_of_job line j =
-    map (of_note (times_extent line j.schedule.now)) (notes_of_job (option_map (λ c. c.now) j.command) line)
-    ++ (map (of_warning line j.schedule.now) (filter is_told_below j.warnings.items)
+    map (finding_of_note (times_extent line j.schedule.now)) (notes_of_job (option_map (λ c. c.now) j.command) line)
+    ++ (map (finding_of_warning line j.schedule.now) (filter is_told_below j.warnings.items)
     ++ (of_meetings (times_extent line j.schedule.now) j.meetings
-    ++ (only_if (is_some j.same) (named severities.Warning (codes "same-job") (times_extent line j.schedule.now))
-    ++ map (of_unneeded (times_extent line j.schedule.now)) j.unneeded.items)))
+    ++ (only_if (is_some j.same) (finding_without_field severities.Warning (codes "same-job") (times_extent line j.schedule.now))
+    ++ map (finding_of_unneeded (times_extent line j.schedule.now)) j.unneeded.items)))
 
 -- a warning of a setting, at the place of its text
 abbrev pub of_setting : List ℕ → OtherWarning → Found
-of_setting line w = named severities.Warning (other_name w) (content_extent line)
+of_setting line w = finding_without_field severities.Warning (other_name w) (content_extent line)
 
 -- what is found of a setting: that bytes hide others, that it says a zone, and that its value isn't expanded
 abbrev pub findings_of_setting : List ℕ → SettingReport → List Found
@@ -195,16 +195,16 @@ findings_of_setting line s =
     only_if s.is_hiding (of_setting line others.ControlByte)
     ++ (only_if s.is_zone (of_setting line others.NoZone) ++ only_if s.is_not_expanded (of_setting line others.NotExpanded))
 
--- what is found of a line with a report: nothing of a good one. Where it is refused that stands first, behind it its notes, and what another
+-- what is found of a line with a report: nothing of a good one. Where it is refused that stands first, after it its notes, and what another
 -- program takes of it
 abbrev pub findings_of_line : List ℕ → Report → List Found
 findings_of_line line reports.Silent = []
-findings_of_line line (reports.Misnamed name) = of_unknown_name line ∷ []
+findings_of_line line (reports.Misnamed name) = finding_of_unknown_name line ∷ []
 findings_of_line line (reports.Setting seen is_fed) = findings_of_setting line seen
 findings_of_line line (reports.Job j) = findings_of_job line j
 findings_of_line line (reports.Refused start end why) =
-    named severities.Error (refusal_kind why) (record { start = start; end = end })
-    ∷ (map (of_note (record { start = start; end = end })) (notes_of_refusal why line) ++ map (of_reading (record { start = start; end = end })) (taken_of why))
+    finding_without_field severities.Error (refusal_kind why) (record { start = start; end = end })
+    ∷ (map (finding_of_note (record { start = start; end = end })) (notes_of_refusal why line) ++ map (finding_of_reading (record { start = start; end = end })) (taken_of why))
 
 -- ---- a file
 
@@ -223,7 +223,7 @@ findings_said all = map finding_said all
 -- a reason for which cron ignores a file as a whole, at no byte of its line
 abbrev pub reason : List ℕ → List ℕ → Said
 reason name text = record {
-  found = named severities.Error name (record { start = 0; end = 0 });
+  found = finding_without_field severities.Error name (record { start = 0; end = 0 });
   text = codes "cron ignores the whole file: " ++ text;
 }
 
@@ -252,7 +252,7 @@ findings_of_lines dialects.Patterns lines f = []
 -- `file-name`: cron passes over a file for its name
 abbrev pub file_name : Said
 file_name = record {
-  found = named severities.Warning (codes "file-name") (record { start = 0; end = 0 });
+  found = finding_without_field severities.Warning (codes "file-name") (record { start = 0; end = 0 });
   text = codes "cron passes over a file of this name, and no line of it is read here: write letters, digits, _ and - alone";
 }
 
@@ -276,5 +276,5 @@ abbrev pub described : List ℕ → Report → List Found
 described pattern reports.Silent = findings_of_line pattern reports.Silent
 described pattern (reports.Misnamed name) = findings_of_line pattern (reports.Misnamed name)
 described pattern (reports.Setting seen is_fed) = findings_of_line pattern (reports.Setting seen is_fed)
-described pattern (reports.Job j) = map (of_warning pattern j.schedule.now) (filter is_of_preset j.warnings.items)
+described pattern (reports.Job j) = map (finding_of_warning pattern j.schedule.now) (filter is_of_preset j.warnings.items)
 described pattern (reports.Refused start end why) = findings_of_line pattern (reports.Refused start end why)

@@ -1,7 +1,7 @@
 //! What is found of a line and of a file: each thing with how grave it is, its name, its place and what it says.
 ghost use Rattle.std.specs.Prelude.{◌≡◌, [], ◌∷◌, ◌++◌, map, filter, option_map, is_some, IfOk, OnOk};
 ghost use Rattle.croncheck_output.specs.Severity.{severity_name};
-ghost use Rattle.croncheck_findings.specs.Findings.{content_extent, finding_seen, findings_seen, named, only_if, fault_kind, refusal_kind, of_warning, of_note, of_reading, of_change, of_range, of_meetings, of_unneeded, findings_of_job, of_setting, findings_of_setting, findings_of_line};
+ghost use Rattle.croncheck_findings.specs.Findings.{content_extent, finding_seen, findings_seen, finding_without_field, only_if, fault_kind, refusal_kind, finding_of_warning, finding_of_note, finding_of_reading, finding_of_change, of_range, of_meetings, finding_of_unneeded, findings_of_job, of_setting, findings_of_setting, findings_of_line};
 ghost use Rattle.croncheck_findings.specs.Found.{is_told_below};
 ghost use Rattle.croncheck_findings.specs.Findings.{is_of_preset, described};
 ghost use Rattle.croncheck_report.specs.Report.{notes_of_refusal, taken_of};
@@ -24,7 +24,7 @@ use crontab::line::Fault;
 use crontab::notes;
 use crontab::notes::Note;
 use places::{content_extent, place_of, times_extent};
-use reasons::{at_fault, push_why};
+use reasons::{bytes_at_fault, push_why};
 use std::alloc::{AllocError, Global};
 
 /// A place in a line, without its line feed.
@@ -32,7 +32,7 @@ use std::alloc::{AllocError, Global};
 pub struct Extent {
     /// The byte at which it begins, from 0.
     pub start: usize,
-    /// The byte behind its last one.
+    /// The byte after its last one.
     pub end: usize,
 }
 
@@ -101,7 +101,7 @@ fn findings_of_preset(
     pattern: &[u8],
     job: &JobReport<'_, '_>,
 ) -> Result<Vec<Finding>, AllocError>
-    ensures { IfOk result (λ found. findings_seen found.items ≡ map (of_warning pattern.now job.now.schedule.now) (filter is_of_preset job.now.warnings.items)) }
+    ensures { IfOk result (λ found. findings_seen found.items ≡ map (finding_of_warning pattern.now job.now.schedule.now) (filter is_of_preset job.now.warnings.items)) }
 {
     let mut found = Vec::new(alloc);
     let told = those_of_preset(alloc, job.warnings.as_slice())?;
@@ -173,13 +173,13 @@ fn push_refused(
     why: &Why,
 ) -> Result<(), AllocError>
     ensures { OnOk result (findings_seen found.new.items ≡ findings_seen found.old.items
-        ++ (named Severity.Error (refusal_kind why.now) extent
-        ∷ (map (of_note extent) (notes_of_refusal why.now line.now) ++ map (of_reading extent) (taken_of why.now)))) }
+        ++ (finding_without_field Severity.Error (refusal_kind why.now) extent
+        ∷ (map (finding_of_note extent) (notes_of_refusal why.now line.now) ++ map (finding_of_reading extent) (taken_of why.now)))) }
 {
     found.push(refusal(alloc, line, extent, why)?)?;
     let noted = why.notes(alloc, line)?;
     push_notes(alloc, found, extent, noted.as_slice())?;
-    push_readings(alloc, found, extent, why.taken())
+    push_readings(alloc, found, extent, why.readings_taken())
 }
 
 // What another program takes.
@@ -189,33 +189,42 @@ fn push_readings(
     extent: Extent,
     readings: &[Reading],
 ) -> Result<(), AllocError>
-    ensures { OnOk result (findings_seen found.new.items ≡ findings_seen found.old.items ++ map (of_reading extent) readings.now) }
+    ensures { OnOk result (findings_seen found.new.items ≡ findings_seen found.old.items ++ map (finding_of_reading extent) readings.now) }
 {
     for reading in readings {
-        found.push(of_reading(alloc, extent, *reading)?)?;
+        found.push(finding_of_reading(alloc, extent, *reading)?)?;
     }
     Ok(())
 }
 
-fn of_reading(alloc: Global, extent: Extent, reading: Reading) -> Result<Finding, AllocError>
-    ensures { IfOk result (λ f. finding_seen f ≡ of_reading extent reading) }
+fn finding_of_reading(
+    alloc: Global,
+    extent: Extent,
+    reading: Reading,
+) -> Result<Finding, AllocError>
+    ensures { IfOk result (λ f. finding_seen f ≡ finding_of_reading extent reading) }
 {
     let text = reading.sentence(alloc)?;
-    Ok(named(Severity::Note, PRESET, extent, text))
+    Ok(finding_without_field(Severity::Note, PRESET, extent, text))
 }
 
 fn refusal(alloc: Global, line: &[u8], extent: Extent, why: &Why) -> Result<Finding, AllocError>
-    ensures { IfOk result (λ f. finding_seen f ≡ named Severity.Error (refusal_kind why.now) extent) }
+    ensures { IfOk result (λ f. finding_seen f ≡ finding_without_field Severity.Error (refusal_kind why.now) extent) }
 {
     let mut text = String::new(alloc);
-    let piece = at_fault(line, extent.start, extent.end);
+    let piece = bytes_at_fault(line, extent.start, extent.end);
     push_why(alloc, &mut text, line, piece, why)?;
-    Ok(named(Severity::Error, kind_of_why(why), extent, text))
+    Ok(finding_without_field(Severity::Error, kind_of_why(why), extent, text))
 }
 
 // A finding of no field.
-fn named(severity: Severity, name: &'static str, extent: Extent, text: String) -> Finding
-    ensures { finding_seen result ≡ named severity name.now extent }
+fn finding_without_field(
+    severity: Severity,
+    name: &'static str,
+    extent: Extent,
+    text: String,
+) -> Finding
+    ensures { finding_seen result ≡ finding_without_field severity name.now extent }
 {
     Finding {
         severity,
@@ -247,7 +256,7 @@ fn kind_of_why(why: &Why) -> &'static str
     ensures { result.now ≡ refusal_kind why.now }
 {
     match why {
-        Why::Cron(fault) | Why::Behind(fault) => kind_of_fault(*fault),
+        Why::Cron(fault) | Why::AfterOpenLine(fault) => kind_of_fault(*fault),
         Why::Pattern(_, _) => "pattern",
         Why::Crate(_) => "text",
         Why::NotText => "not-utf-8",
@@ -263,19 +272,19 @@ fn push_notes(
     extent: Extent,
     all: &[Note],
 ) -> Result<(), AllocError>
-    ensures { OnOk result (findings_seen found.new.items ≡ findings_seen found.old.items ++ map (of_note extent) all.now) }
+    ensures { OnOk result (findings_seen found.new.items ≡ findings_seen found.old.items ++ map (finding_of_note extent) all.now) }
 {
     for note in all {
-        found.push(of_note(alloc, extent, *note)?)?;
+        found.push(finding_of_note(alloc, extent, *note)?)?;
     }
     Ok(())
 }
 
-fn of_note(alloc: Global, extent: Extent, note: Note) -> Result<Finding, AllocError>
-    ensures { IfOk result (λ f. finding_seen f ≡ of_note extent note) }
+fn finding_of_note(alloc: Global, extent: Extent, note: Note) -> Result<Finding, AllocError>
+    ensures { IfOk result (λ f. finding_seen f ≡ finding_of_note extent note) }
 {
     let text = String::from_str(alloc, notes::text(note))?;
-    Ok(named(Severity::Note, note.name(), extent, text))
+    Ok(finding_without_field(Severity::Note, note.name(), extent, text))
 }
 
 // ---- a setting
@@ -318,7 +327,7 @@ fn push_if(
     if holds {
         let text = String::from_str(alloc, warning.text())?;
         let extent = content_extent(line);
-        found.push(named(Severity::Warning, warning.name(), extent, text))?;
+        found.push(finding_without_field(Severity::Warning, warning.name(), extent, text))?;
     }
     Ok(())
 }
@@ -350,9 +359,9 @@ fn push_warnings(
     job: &JobReport<'_, '_>,
 ) -> Result<(), AllocError>
     ensures { OnOk result (findings_seen found.new.items ≡ findings_seen found.old.items
-        ++ map (of_warning line.now job.now.schedule.now) (filter is_told_below job.now.warnings.items)) }
+        ++ map (finding_of_warning line.now job.now.schedule.now) (filter is_told_below job.now.warnings.items)) }
 {
-    let told = told_below(alloc, job.warnings.as_slice())?;
+    let told = warnings_told_below(alloc, job.warnings.as_slice())?;
     push_each_warning(
         alloc,
         found,
@@ -364,7 +373,7 @@ fn push_warnings(
 }
 
 // Of some warnings those that are told below their line.
-fn told_below(alloc: Global, warnings: &[Warning]) -> Result<Vec<Warning>, AllocError>
+fn warnings_told_below(alloc: Global, warnings: &[Warning]) -> Result<Vec<Warning>, AllocError>
     ensures { IfOk result (λ told. told.items ≡ filter is_told_below warnings.now) }
 {
     let mut told = Vec::new(alloc);
@@ -413,22 +422,22 @@ fn push_each_warning(
     warnings: &[Warning],
     dates: &Option<Dates>,
 ) -> Result<(), AllocError>
-    ensures { OnOk result (findings_seen found.new.items ≡ findings_seen found.old.items ++ map (of_warning line.now times.now) warnings.now) }
+    ensures { OnOk result (findings_seen found.new.items ≡ findings_seen found.old.items ++ map (finding_of_warning line.now times.now) warnings.now) }
 {
     for warning in warnings {
-        found.push(of_warning(alloc, line, times, *warning, dates)?)?;
+        found.push(finding_of_warning(alloc, line, times, *warning, dates)?)?;
     }
     Ok(())
 }
 
-fn of_warning(
+fn finding_of_warning(
     alloc: Global,
     line: &[u8],
     times: &[u8],
     warning: Warning,
     dates: &Option<Dates>,
 ) -> Result<Finding, AllocError>
-    ensures { IfOk result (λ f. finding_seen f ≡ of_warning line.now times.now warning) }
+    ensures { IfOk result (λ f. finding_seen f ≡ finding_of_warning line.now times.now warning) }
 {
     let text = warning_text(alloc, warning, dates)?;
     Ok(Finding {
@@ -458,12 +467,12 @@ fn push_unknown_name(
     name: &[u8],
 ) -> Result<(), AllocError>
     ensures { OnOk result (findings_seen found.new.items
-        ≡ findings_seen found.old.items ++ named Severity.Warning UNKNOWN_NAME.now (content_extent line.now) ∷ []) }
+        ≡ findings_seen found.old.items ++ finding_without_field Severity.Warning UNKNOWN_NAME.now (content_extent line.now) ∷ []) }
 {
     let mut text = String::new(alloc);
     push_unknown(alloc, &mut text, name)?;
     let extent = content_extent(line);
-    found.push(named(Severity::Warning, UNKNOWN_NAME, extent, text))?;
+    found.push(finding_without_field(Severity::Warning, UNKNOWN_NAME, extent, text))?;
     Ok(())
 }
 
@@ -473,21 +482,21 @@ fn push_unneeded(
     extent: Extent,
     names: &[&'static str],
 ) -> Result<(), AllocError>
-    ensures { OnOk result (findings_seen found.new.items ≡ findings_seen found.old.items ++ map (of_unneeded extent) names.now) }
+    ensures { OnOk result (findings_seen found.new.items ≡ findings_seen found.old.items ++ map (finding_of_unneeded extent) names.now) }
 {
     for name in names {
-        found.push(of_unneeded(alloc, extent, name)?)?;
+        found.push(finding_of_unneeded(alloc, extent, name)?)?;
     }
     Ok(())
 }
 
-fn of_unneeded(alloc: Global, extent: Extent, name: &str) -> Result<Finding, AllocError>
-    ensures { IfOk result (λ f. finding_seen f ≡ named Severity.Warning NOT_NEEDED.now extent) }
+fn finding_of_unneeded(alloc: Global, extent: Extent, name: &str) -> Result<Finding, AllocError>
+    ensures { IfOk result (λ f. finding_seen f ≡ finding_without_field Severity.Warning NOT_NEEDED.now extent) }
 {
     let text = format!(in alloc;
         "The comment above allows {name}, which isn't found here. Take the name out, or look for a line that was changed."
     )?;
-    Ok(named(Severity::Warning, NOT_NEEDED, extent, text))
+    Ok(finding_without_field(Severity::Warning, NOT_NEEDED, extent, text))
 }
 
 // ---- changes of the clock, and an earlier job
@@ -515,19 +524,19 @@ fn push_range(
 {
     match met {
         Some(met) if met.is_warned() => {
-            found.push(of_change(alloc, extent, met)?)?;
+            found.push(finding_of_change(alloc, extent, met)?)?;
             Ok(())
         }
         _ => Ok(()),
     }
 }
 
-fn of_change(alloc: Global, extent: Extent, met: &Met) -> Result<Finding, AllocError>
-    ensures { IfOk result (λ f. finding_seen f ≡ of_change extent met.now) }
+fn finding_of_change(alloc: Global, extent: Extent, met: &Met) -> Result<Finding, AllocError>
+    ensures { IfOk result (λ f. finding_seen f ≡ finding_of_change extent met.now) }
 {
     let mut text = String::new(alloc);
     met.meeting.push_text(&mut text)?;
-    Ok(named(Severity::Warning, met.meeting.name(), extent, text))
+    Ok(finding_without_field(Severity::Warning, met.meeting.name(), extent, text))
 }
 
 fn push_same_job(
@@ -537,12 +546,12 @@ fn push_same_job(
     job: &JobReport<'_, '_>,
 ) -> Result<(), AllocError>
     ensures { OnOk result (findings_seen found.new.items
-        ≡ findings_seen found.old.items ++ only_if (is_some job.now.same) (named Severity.Warning SAME_JOB.now extent)) }
+        ≡ findings_seen found.old.items ++ only_if (is_some job.now.same) (finding_without_field Severity.Warning SAME_JOB.now extent)) }
 {
     if job.same.is_some() {
         let mut text = String::new(alloc);
         push_same(&mut text, job)?;
-        found.push(named(Severity::Warning, SAME_JOB, extent, text))?;
+        found.push(finding_without_field(Severity::Warning, SAME_JOB, extent, text))?;
     }
     Ok(())
 }

@@ -8,7 +8,7 @@ use Rattle.croncheck_forms.specs.declared.annotator.Style.{Style}
 use Rattle.croncheck_findings.specs.declared.findings.Finding.{Finding}
 use Rattle.croncheck_report.specs.declared.report.Report.{Report}
 use Rattle.croncheck_report.specs.declared.settings.Settings.{Settings}
-use Rattle.croncheck_forms.specs.Annotations.{message_escape, property_escape, escaped_byte, escaped, ends_no_line, ends_no_value, ends_nothing, WritesLines, Annotates, AnnotatesFile}
+use Rattle.croncheck_forms.specs.Annotations.{message_escape, property_escape, escaped_byte, escaped_bytes, ends_no_line, ends_no_value, ends_nothing, WritesLines, Annotates, AnnotatesFile}
 use Rattle.croncheck_findings.specs.Findings.{findings_seen, findings_said, findings_of_line, findings_of_file, last_line}
 use Rattle.croncheck_output.specs.Output.{Written}
 use Rattle.croncheck_reading.specs.Progress.{Reports}
@@ -16,10 +16,10 @@ use Rattle.croncheck_reading.specs.Stand.{Stand}
 
 -- ---- escapes
 
--- the first byte was put behind a line
+-- the first byte was put after a line
 pub one_escaped : (old new : List ℕ) (is_property : Bool) (b : ℕ) (rest bytes : List ℕ) → new ≡ old ++ escaped_byte is_property b → bytes ≡ b ∷ rest
-    → new ++ escaped is_property rest ≡ old ++ escaped is_property bytes
-one_escaped old new is_property b rest bytes new_is is = rw (new_is, is) (append_assoc old (escaped_byte is_property b) (escaped is_property rest))
+    → new ++ escaped_bytes is_property rest ≡ old ++ escaped_bytes is_property bytes
+one_escaped old new is_property b rest bytes new_is is = rw (new_is, is) (append_assoc old (escaped_byte is_property b) (escaped_bytes is_property rest))
 
 no_line_end : (b : ℕ) → (b == 13) ≡ false → (b == 10) ≡ false → (not (b == 10) && not (b == 13)) ≡ true
 no_line_end b r f = rw (f, r) refl
@@ -49,13 +49,13 @@ byte_closed true b = property_closed b _ _ _ _ _ refl refl refl refl refl
 byte_closed false b = message_closed b _ _ _ refl refl refl
 
 -- no byte of a text ends its line, and none of a property its value
-pub closed : (is_property : Bool) (bytes : List ℕ) → list_all (ends_nothing is_property) (escaped is_property bytes) ≡ true
+pub closed : (is_property : Bool) (bytes : List ℕ) → list_all (ends_nothing is_property) (escaped_bytes is_property bytes) ≡ true
 closed is_property [] = refl
 closed is_property (b ∷ bs) =
-    list_all-append (ends_nothing is_property) (escaped_byte is_property b) (escaped is_property bs)
-    ∙ ap (λ t. t && list_all (ends_nothing is_property) (escaped is_property bs)) (byte_closed is_property b) ∙ closed is_property bs
+    list_all-append (ends_nothing is_property) (escaped_byte is_property b) (escaped_bytes is_property bs)
+    ∙ ap (λ t. t && list_all (ends_nothing is_property) (escaped_bytes is_property bs)) (byte_closed is_property b) ∙ closed is_property bs
 
-pub all_closed : (is_property : Bool) (bytes text : List ℕ) → text ≡ escaped is_property bytes → list_all (ends_nothing is_property) text ≡ true
+pub all_closed : (is_property : Bool) (bytes text : List ℕ) → text ≡ escaped_bytes is_property bytes → list_all (ends_nothing is_property) text ≡ true
 all_closed is_property bytes text is = rw is (closed is_property bytes)
 
 -- ---- what is written

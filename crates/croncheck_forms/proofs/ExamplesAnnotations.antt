@@ -5,14 +5,14 @@ use Rattle.std.specs.Fmt.{digits}
 use Rattle.croncheck_findings.specs.declared.findings.Finding.{Finding}
 use Rattle.croncheck_output.specs.declared.severity.Severity.{Severity}
 use Rattle.croncheck_output.specs.declared.severity.Severity.TheVariants as severities
-use Rattle.croncheck_forms.specs.Annotations.{escaped, gcc_text, github_line}
+use Rattle.croncheck_forms.specs.Annotations.{escaped_bytes, gcc_text, github_line}
 
 -- the name of a file that would forge a command
-a_forged_name : escaped true (codes "a,b:c\n::error::%0A\r") ≡ codes "a%2Cb%3Ac%0A%3A%3Aerror%3A%3A%250A%0D"
+a_forged_name : escaped_bytes true (codes "a,b:c\n::error::%0A\r") ≡ codes "a%2Cb%3Ac%0A%3A%3Aerror%3A%3A%250A%0D"
 a_forged_name = refl
 
 -- in a message a colon and a comma stand for themselves
-a_message : escaped false (codes "a,b:c 5%\r\n") ≡ codes "a,b:c 5%25%0D%0A"
+a_message : escaped_bytes false (codes "a,b:c 5%\r\n") ≡ codes "a,b:c 5%25%0D%0A"
 a_message = refl
 
 -- a finding of the second to the fifth byte, which is called `gone`

@@ -19,7 +19,7 @@ use Rattle.croncheck_runs.specs.declared.runs.Run.{Run}
 use Rattle.croncheck_runs.specs.declared.runs.Runs.{Runs}
 use Rattle.croncheck_warnings.specs.declared.warnings.Warning.{Warning}
 use Rattle.croncheck_changes.specs.Changes.{none_met}
-use Rattle.croncheck_output.specs.Escaped.{exact}
+use Rattle.croncheck_output.specs.Escaped.{exact_text}
 
 -- a line of the file `f` in UTC
 abbrev line_of : List ℕ → ℕ → Origin
@@ -69,8 +69,8 @@ a_job : (hour : Offset) (schedule command : Bor (List ℕ)) (found : Vec Warning
     (member (codes "findings") (array no_items)
     (member (codes "job") (object
     (member (codes "changes") (array no_items)
-    (member (codes "command") (string (exact command.now))
-    (member (codes "schedule") (string (exact schedule.now))
+    (member (codes "command") (string (exact_text command.now))
+    (member (codes "schedule") (string (exact_text schedule.now))
     (member (codes "times") (object
     (member (codes "description") (string (string_bytes text))
     (member (codes "end") (string (codes "more"))
@@ -114,7 +114,7 @@ as_json text runs none more = rw (none, more) refl
 
 -- ---- the runs before the start
 
--- no run is listed behind the start, and one before it, in a zone an hour ahead of UTC
+-- no run is listed after the start, and one before it, in a zone an hour ahead of UTC
 one_before : (hour : Offset) (text : String Global) (runs previous : Runs) (first : Run) → hour.seconds ≡ pos 3_600 → runs.items.items ≡ [] → runs.end ≡ ends.More
     → previous.items.items ≡ first ∷ [] → previous.end ≡ ends.Window → first.time.second ≡ pos 1_731_279_600 → first.count ≡ 1 → first.made_up ≡ None
     → times_object (zones.Fixed hour) (tolds.Runs text runs (Some previous) None false)

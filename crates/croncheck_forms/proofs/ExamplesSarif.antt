@@ -22,13 +22,13 @@ letter_of_two_bytes = refl
 abbrev extent : ℕ → ℕ → Extent
 extent start end = record { start = start; end = end }
 
--- the second field of `0 9 `, one character; its end is the column behind it
+-- the second field of `0 9 `, one character; its end is the column after it
 one_character : columns_of (codes "0 9 *") (extent 2 3) ≡ record { start = 3; end = 4 }
 one_character = refl
 
 -- a letter of two bytes in front, and one within
-behind_a_letter : columns_of (195 ∷ 169 ∷ 32 ∷ 195 ∷ 169 ∷ 57 ∷ []) (extent 3 6) ≡ record { start = 3; end = 5 }
-behind_a_letter = refl
+after_a_letter : columns_of (195 ∷ 169 ∷ 32 ∷ 195 ∷ 169 ∷ 57 ∷ []) (extent 3 6) ≡ record { start = 3; end = 5 }
+after_a_letter = refl
 
 no_character : columns_of (codes "0 9") (extent 3 3) ≡ record { start = 4; end = 4 }
 no_character = refl

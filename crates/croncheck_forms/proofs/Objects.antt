@@ -24,7 +24,7 @@ use Rattle.croncheck_findings.specs.Findings.{findings_seen, findings_said, find
 use Rattle.croncheck_forms.specs.Json.{integer_or_null, count_or_null, often_object, kind_of_line, Origin, string_or_null, finding_object, run_object, times_object, change_object, change_objects, job_object, job_data, object_of, WritesObject, next_origin, Writes, WritesIfFound, WritesFound, file_origin, WritesFile}
 use Rattle.croncheck_output.specs.Output.{Written}
 use Rattle.croncheck_reading.specs.Progress.{Reports}
-use Rattle.croncheck_output.specs.Escaped.{exact}
+use Rattle.croncheck_output.specs.Escaped.{exact_text}
 use Rattle.croncheck_shown.specs.Shown.{offset_of}
 use Rattle.croncheck_reading.specs.Stand.{Stand}
 
@@ -84,7 +84,7 @@ changes_whole (Some c) (Some d) = rw (change_whole c, change_whole d) refl
 
 job_whole : (zone : TimeZone) (j : JobReport) → has_float (job_object zone j) ≡ false
 job_whole zone j =
-    rw (changes_whole j.meetings.gap j.meetings.repeated, string_whole (option_map (λ c. exact c.now) j.command), times_whole zone j.times, string_whole (option_map (λ u. exact u.now) j.user))
+    rw (changes_whole j.meetings.gap j.meetings.repeated, string_whole (option_map (λ c. exact_text c.now) j.command), times_whole zone j.times, string_whole (option_map (λ u. exact_text u.now) j.user))
 
 data_whole : (zone : TimeZone) (report : Report) → has_float (job_data zone report) ≡ false
 data_whole zone reports.Silent = refl
@@ -153,14 +153,14 @@ file_written s zone stand old new found are written = record { found = found; fo
 pub not_with_float : (o : Origin) (report : Report) (found : List Finding) (d : Data) → has_float d ≡ true → ¬ (d ≡ object_of o report found)
 not_with_float o report found d has same = true≢false (sym has ∙ ap has_float same ∙ object_whole o report found)
 
--- what is known behind known bytes
-known_behind : (before text : List ℕ) (after : Option (List ℕ)) → Appends (Some before) after text → after ≡ Some (before ++ text)
-known_behind before text None h = absurd h
-known_behind before text (Some after) h = ap Some h
+-- what is known after known bytes
+known_after : (before text : List ℕ) (after : Option (List ℕ)) → Appends (Some before) after text → after ≡ Some (before ++ text)
+known_after before text None h = absurd h
+known_after before text (Some after) h = ap Some h
 
 -- of what is found one text alone is written
 pub one_text : (o : Origin) (report : Report) (found : List Finding) (before : List ℕ) (after other : Option (List ℕ))
     → WritesObject o report found (Some before) after → WritesObject o report found (Some before) other → after ≡ other
 one_text o report found before after other w v =
     let line : List ℕ = compact_text (object_of o report found) ++ 10 ∷ [] in
-    known_behind before line after w.appends ∙ sym (known_behind before line other v.appends)
+    known_after before line after w.appends ∙ sym (known_after before line other v.appends)

@@ -11,7 +11,7 @@ use Rattle.croncheck_forms.specs.Sarif.{uri_byte, uri_of, region, result_object,
 
 -- ---- URIs
 
--- the first byte was put behind a URI
+-- the first byte was put after a URI
 pub one_in_uri : (old new : List ℕ) (b : ℕ) (rest bytes : List ℕ) → new ≡ old ++ uri_byte b → bytes ≡ b ∷ rest → new ++ uri_of rest ≡ old ++ uri_of bytes
 one_in_uri old new b rest bytes new_is is = rw (new_is, is) (append_assoc old (uri_byte b) (uri_of rest))
 

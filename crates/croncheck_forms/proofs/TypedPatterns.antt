@@ -1,4 +1,4 @@
--- Patterns that are words of the call, told one behind the other.
+-- Patterns that are words of the call, told one after the other.
 use Rattle.std.proofs.Common.{◌≡◌, ◌∙◌, ◌<◌, ◌≤◌, ◌+◌, ◌||◌, ℕ, suc, List, [], ◌∷◌, ◌++◌, Bool, true, false, ap, sym, subst, refl, take, drop, length, get_or, map, cond, arith}
 use Rattle.std.specs.List.{prefix_len}
 use Rattle.std.proofs.lemmas.List.{map_more, take_all}
@@ -23,7 +23,7 @@ none_left_at : (p : ℕ → Bool) (x : ℕ) (xs : List ℕ) → prefix_len p (dr
 none_left_at p x xs rest true is = ap (prefix_len p) (one_more (prefix_len p xs) x xs) ∙ rest
 none_left_at p x xs rest false is = ap (λ b. cond b (1 + prefix_len p xs) 0) is
 
--- nothing more passes behind the first bytes that do
+-- nothing more passes after the first bytes that do
 none_left : (p : ℕ → Bool) (xs : List ℕ) → prefix_len p (drop (prefix_len p xs) xs) ≡ 0
 none_left p [] = refl
 none_left p (x ∷ xs) = none_left_at p x xs (none_left p xs) (p x) refl

@@ -49,11 +49,11 @@ abbrev pub escaped_byte : Bool → ℕ → List ℕ
 escaped_byte is_property b = unwrap_or (escape_of is_property b) (b ∷ [])
 
 -- the bytes of the value of a property, or of a message
-abbrev pub escaped : Bool → List ℕ → List ℕ
-escaped is_property [] = []
-escaped is_property (b ∷ bs) = escaped_byte is_property b ++ escaped is_property bs
+abbrev pub escaped_bytes : Bool → List ℕ → List ℕ
+escaped_bytes is_property [] = []
+escaped_bytes is_property (b ∷ bs) = escaped_byte is_property b ++ escaped_bytes is_property bs
 
--- the byte ends no line: a command ends with its line, and the next begins behind it
+-- the byte ends no line: a command ends with its line, and the next begins after it
 abbrev pub ends_no_line : ℕ → Bool
 ends_no_line b = not (b == 10) && not (b == 13)
 
@@ -71,7 +71,7 @@ command_name severities.Error = codes "error"
 command_name severities.Warning = codes "warning"
 command_name severities.Note = codes "notice"
 
--- the lines and the columns, in bytes from 1; the second column is that behind the last byte
+-- the lines and the columns, in bytes from 1; the second column is that after the last byte
 abbrev pub github_place : ℕ → Finding → List ℕ
 github_place number f =
     codes ",line=" ++ (decimal number ++ (codes ",endLine=" ++ (decimal number ++ (codes ",col=" ++ (decimal (one_more f.extent.start)
@@ -80,8 +80,8 @@ github_place number f =
 -- the command of a finding at a line of a file
 abbrev pub github_line : List ℕ → ℕ → Finding → List ℕ
 github_line file number f =
-    (codes "::" ++ (command_name f.severity ++ codes " file=")) ++ (escaped true file ++ (github_place number f ++ (escaped true f.name.now
-    ++ (codes "::" ++ (escaped false (string_bytes f.text) ++ codes "\n")))))
+    (codes "::" ++ (command_name f.severity ++ codes " file=")) ++ (escaped_bytes true file ++ (github_place number f ++ (escaped_bytes true f.name.now
+    ++ (codes "::" ++ (escaped_bytes false (string_bytes f.text) ++ codes "\n")))))
 
 -- ---- what is written
 

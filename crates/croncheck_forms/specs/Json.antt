@@ -32,7 +32,7 @@ use Rattle.croncheck_findings.specs.Findings.{findings_seen, findings_said, find
 use Rattle.croncheck_output.specs.Output.{Written}
 use Rattle.croncheck_reading.specs.Tally.{one_more}
 use Rattle.croncheck_reading.specs.Progress.{Reports}
-use Rattle.croncheck_output.specs.Escaped.{exact}
+use Rattle.croncheck_output.specs.Escaped.{exact_text}
 use Rattle.croncheck_shown.specs.Shown.{offset_of}
 use Rattle.croncheck_reading.specs.Stand.{Stand}
 
@@ -179,10 +179,10 @@ objects_of_changes met = change_objects met.gap ++ change_objects met.repeated
 abbrev pub job_object : TimeZone → JobReport → Data
 job_object zone j = object
     (member (codes "changes") (array (items_of (objects_of_changes j.meetings)))
-    (member (codes "command") (string_or_null (option_map (λ c. exact c.now) j.command))
-    (member (codes "schedule") (string (exact j.schedule.now))
+    (member (codes "command") (string_or_null (option_map (λ c. exact_text c.now) j.command))
+    (member (codes "schedule") (string (exact_text j.schedule.now))
     (member (codes "times") (times_object zone j.times)
-    (member (codes "user") (string_or_null (option_map (λ u. exact u.now) j.user)) no_members)))))
+    (member (codes "user") (string_or_null (option_map (λ u. exact_text u.now) j.user)) no_members)))))
 
 -- the job of a report, or null
 abbrev pub job_data : TimeZone → Report → Data

@@ -4,14 +4,14 @@ use Rattle.croncheck_forms.specs.declared.patterns.Answer.{Answer}
 use Rattle.croncheck_forms.specs.declared.patterns.Answer.TheVariants as answers
 use Rattle.croncheck_report.specs.declared.report.Report.{Report}
 use Rattle.croncheck_report.specs.declared.settings.Settings.{Settings}
-use Rattle.crontab.specs.Bytes.{behind}
+use Rattle.crontab.specs.Bytes.{text_after}
 use Rattle.crontab.specs.declared.bytes.Kind.TheVariants as kinds
 use Rattle.crontab.specs.Checked.{TakesInTurn}
 use Rattle.croncheck_report.specs.FileSeen.{is_refused}
 use Rattle.croncheck_findings.specs.Findings.{Found, findings_of_line, described}
 use Rattle.croncheck_output.specs.Output.{Written, WritesApart, IsFlushed}
 use Rattle.croncheck_report.specs.Report.{IsReportOfPattern}
-use Rattle.croncheck_shown.specs.Reported.{below, EndsWithFound}
+use Rattle.croncheck_shown.specs.Reported.{EndsWithFound}
 
 -- what is found of it where this is asked
 abbrev pub told_by : Answer → List ℕ → Report → List Found
@@ -27,9 +27,9 @@ pub record Told : Type 0 where
 abbrev pub untold : Written → Told
 untold written = record { written = written; has_refused = false }
 
--- the pattern of a word: what stands behind its blanks in front
+-- the pattern of a word: what stands after its blanks in front
 abbrev pub pattern_in : List ℕ → List ℕ
-pattern_in word = behind kinds.Blank word
+pattern_in word = text_after kinds.Blank word
 
 -- a word was told: it has its report as the pattern of a line of a file has it, of which lines were written, set apart, and below them
 -- what is found of it

@@ -42,7 +42,7 @@ continues b = nat_le 128 b && nat_lt b 192
 abbrev pub characters : ℕ → List ℕ → ℕ
 characters n line = length (filter (λ b. not (continues b)) (take n line))
 
--- the columns of a place of a line, in characters from 1; the second is that behind its last one
+-- the columns of a place of a line, in characters from 1; the second is that after its last one
 abbrev pub columns_of : List ℕ → Extent → Columns
 columns_of line extent = record { start = one_more (characters extent.start line); end = one_more (characters extent.end line) }
 

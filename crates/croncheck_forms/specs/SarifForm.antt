@@ -12,11 +12,11 @@ use Rattle.croncheck_reading.specs.Progress.{Reports}
 use Rattle.croncheck_forms.specs.Sarif.{AreColumns, result_object}
 use Rattle.croncheck_reading.specs.Stand.{Stand}
 
--- what stands behind all results
+-- what stands after all results
 abbrev pub tail_text : List ℕ
 tail_text = codes "\n]}]}\n"
 
--- the result of a finding at a line of a file was written, with a comma behind the one before, or the head in front of the first
+-- the result of a finding at a line of a file was written, with a comma after the one before, or the head in front of the first
 abbrev pub WritesResult : List ℕ → List ℕ → ℕ → Option (List ℕ) → Written → Finding → Written → Type 0
 WritesResult head file number line old f new =
     (columns : Option Columns) × AreColumns line f.extent columns × WritesItem head (codes ",\n") (compact_text (result_object file number columns f)) old new

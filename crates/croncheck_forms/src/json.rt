@@ -5,13 +5,13 @@ ghost use Rattle.serde_json.specs.View.{view, items_of};
 ghost use Rattle.jiff.specs.ZoneView.{plain_zone};
 ghost use Rattle.crontab.specs.Entries.{entry_seen};
 ghost use Rattle.croncheck_forms.specs.Json.{kind_of_line, kind_of, end_name, string_or_null, integer_or_null, count_or_null, run_object, previous_object, reach_name, often_object, named_object, times_object, fate_name, change_object, change_objects, objects_of_changes, job_object, job_data, finding_object, object_of};
-ghost use Rattle.croncheck_output.specs.Escaped.{exact};
+ghost use Rattle.croncheck_output.specs.Escaped.{exact_text};
 
 use croncheck_changes::changes::Fate;
 use croncheck_changes::changes::meetings::{Meetings, Met};
 use croncheck_findings::findings::Finding;
 use croncheck_often::often::{Often, Reach};
-use croncheck_output::escaped::exact;
+use croncheck_output::escaped::exact_text;
 use croncheck_report::place::Place;
 use croncheck_report::report::{JobReport, Report};
 use croncheck_report::shared::Shared;
@@ -78,13 +78,17 @@ pub(crate) fn object_of(
         "kind": kind,
         "file": file,
         "line": line,
-        "job": job_of(alloc, shared, report)?,
-        "findings": findings_of(alloc, found)?
+        "job": job_value(alloc, shared, report)?,
+        "findings": findings_value(alloc, found)?
     })
 }
 
 // What a job is told; null where the line is none.
-fn job_of(alloc: Global, shared: &Shared<'_>, report: &Report<'_, '_>) -> Result<Value, AllocError>
+fn job_value(
+    alloc: Global,
+    shared: &Shared<'_>,
+    report: &Report<'_, '_>,
+) -> Result<Value, AllocError>
     ensures { IfOk result (λ v. view v ≡ job_data (plain_zone shared.now.zone) report.now) }
 {
     match report {
@@ -102,10 +106,10 @@ fn job_object(
     ensures { IfOk result (λ v. view v ≡ job_object (plain_zone shared.now.zone) job.now) }
 {
     json!(in alloc; {
-        "schedule": text_of(alloc, Some(job.schedule))?,
-        "user": text_of(alloc, job.user)?,
-        "command": text_of(alloc, job.command)?,
-        "times": times_of(alloc, shared, &job.times)?,
+        "schedule": bytes_or_null(alloc, Some(job.schedule))?,
+        "user": bytes_or_null(alloc, job.user)?,
+        "command": bytes_or_null(alloc, job.command)?,
+        "times": times_value(alloc, shared, &job.times)?,
         "changes": changes_of(alloc, &job.meetings)?
     })
 }
@@ -158,16 +162,16 @@ fn fate_name(fate: Fate) -> &'static str
 }
 
 // Bytes as they are shown, a backslash as two; null where there are none.
-fn text_of(alloc: Global, bytes: Option<&[u8]>) -> Result<Value, AllocError>
-    ensures { IfOk result (λ v. view v ≡ string_or_null (option_map (λ b. exact b.now) bytes.entry)) }
+fn bytes_or_null(alloc: Global, bytes: Option<&[u8]>) -> Result<Value, AllocError>
+    ensures { IfOk result (λ v. view v ≡ string_or_null (option_map (λ b. exact_text b.now) bytes.entry)) }
 {
     match bytes {
-        Some(bytes) => Ok(Value::String(exact(alloc, bytes)?)),
+        Some(bytes) => Ok(Value::String(exact_text(alloc, bytes)?)),
         None => Ok(Value::Null),
     }
 }
 
-fn times_of(alloc: Global, shared: &Shared<'_>, times: &Told<'_>) -> Result<Value, AllocError>
+fn times_value(alloc: Global, shared: &Shared<'_>, times: &Told<'_>) -> Result<Value, AllocError>
     ensures { IfOk result (λ v. view v ≡ times_object (plain_zone shared.now.zone) times.now) }
 {
     match times {
@@ -187,8 +191,8 @@ fn times_of(alloc: Global, shared: &Shared<'_>, times: &Told<'_>) -> Result<Valu
                 is_past: *is_past,
             };
             match previous {
-                Some(previous) => with_previous(alloc, shared, named, previous),
-                None => named_of(alloc, shared, named),
+                Some(previous) => object_with_previous(alloc, shared, named, previous),
+                None => object_without_previous(alloc, shared, named),
             }
         }
     }
@@ -204,7 +208,11 @@ struct Named<'r, 't> {
 }
 
 // The object without them.
-fn named_of(alloc: Global, shared: &Shared<'_>, named: Named<'_, '_>) -> Result<Value, AllocError>
+fn object_without_previous(
+    alloc: Global,
+    shared: &Shared<'_>,
+    named: Named<'_, '_>,
+) -> Result<Value, AllocError>
     ensures { IfOk result (λ v. view v ≡ named_object (plain_zone shared.now.zone) named.entry.description.now named.entry.runs.now named.entry.is_past None named.entry.often) }
 {
     let (description, end) = (named.description, end_of(&named.runs.end, named.is_past));
@@ -212,21 +220,21 @@ fn named_of(alloc: Global, shared: &Shared<'_>, named: Named<'_, '_>) -> Result<
         Some(often) => json!(in alloc; {
             "when": "named",
             "description": description,
-            "runs": runs_of(alloc, shared, named.runs)?,
+            "runs": runs_value(alloc, shared, named.runs)?,
             "end": end,
-            "often": often_of(alloc, often)?
+            "often": often_value(alloc, often)?
         }),
         None => json!(in alloc; {
             "when": "named",
             "description": description,
-            "runs": runs_of(alloc, shared, named.runs)?,
+            "runs": runs_value(alloc, shared, named.runs)?,
             "end": end
         }),
     }
 }
 
 // The object with them.
-fn with_previous(
+fn object_with_previous(
     alloc: Global,
     shared: &Shared<'_>,
     named: Named<'_, '_>,
@@ -239,23 +247,23 @@ fn with_previous(
         Some(often) => json!(in alloc; {
             "when": "named",
             "description": description,
-            "runs": runs_of(alloc, shared, named.runs)?,
+            "runs": runs_value(alloc, shared, named.runs)?,
             "end": end,
-            "previous": previous_of(alloc, shared, previous)?,
-            "often": often_of(alloc, often)?
+            "previous": previous_value(alloc, shared, previous)?,
+            "often": often_value(alloc, often)?
         }),
         None => json!(in alloc; {
             "when": "named",
             "description": description,
-            "runs": runs_of(alloc, shared, named.runs)?,
+            "runs": runs_value(alloc, shared, named.runs)?,
             "end": end,
-            "previous": previous_of(alloc, shared, previous)?
+            "previous": previous_value(alloc, shared, previous)?
         }),
     }
 }
 
 // How often a job starts.
-fn often_of(alloc: Global, often: Often) -> Result<Value, AllocError>
+fn often_value(alloc: Global, often: Often) -> Result<Value, AllocError>
     ensures { IfOk result (λ v. view v ≡ often_object often) }
 {
     let (from, until, end) = (often.from, often.until, reach_of(often.reach));
@@ -291,11 +299,11 @@ fn distance_or_null(alloc: Global, distance: Option<u64>) -> Result<Value, Alloc
 }
 
 // The runs before the start, and how their list ends.
-fn previous_of(alloc: Global, shared: &Shared<'_>, runs: &Runs<'_>) -> Result<Value, AllocError>
+fn previous_value(alloc: Global, shared: &Shared<'_>, runs: &Runs<'_>) -> Result<Value, AllocError>
     ensures { IfOk result (λ v. view v ≡ previous_object (plain_zone shared.now.zone) runs.now) }
 {
     let end = end_of(&runs.end, false);
-    json!(in alloc; {"runs": runs_of(alloc, shared, runs)?, "end": end})
+    json!(in alloc; {"runs": runs_value(alloc, shared, runs)?, "end": end})
 }
 
 fn end_of(end: &End, is_past: bool) -> &'static str
@@ -310,7 +318,7 @@ fn end_of(end: &End, is_past: bool) -> &'static str
     }
 }
 
-fn runs_of(alloc: Global, shared: &Shared<'_>, runs: &Runs<'_>) -> Result<Value, AllocError>
+fn runs_value(alloc: Global, shared: &Shared<'_>, runs: &Runs<'_>) -> Result<Value, AllocError>
     ensures { IfOk result (λ v. view v ≡ array (items_of (map (run_object (plain_zone shared.now.zone)) runs.now.items.items))) }
 {
     let items = run_objects(alloc, shared, runs.items.as_slice())?;
@@ -358,7 +366,7 @@ fn second_or_null(alloc: Global, second: Option<i64>) -> Result<Value, AllocErro
 // ---- findings
 
 // A list of an object for each.
-fn findings_of(alloc: Global, found: &[Finding]) -> Result<Value, AllocError>
+fn findings_value(alloc: Global, found: &[Finding]) -> Result<Value, AllocError>
     ensures { IfOk result (λ v. view v ≡ array (items_of (map finding_object found.now))) }
 {
     let items = finding_objects(alloc, found)?;

@@ -16,7 +16,7 @@ use croncheck_report::report::Report;
 use std::io;
 use std::io::Write;
 
-/// Writes the object of each line, and behind them that of their file, each on a line of its own.
+/// Writes the object of each line, and after them that of their file, each on a line of its own.
 #[derive(Clone, Copy, Drop)]
 pub struct JsonReporter;
 

@@ -43,13 +43,13 @@ pub fn tell_patterns<W: Write>(
     let mut has_refused = false;
     for k in 0..words.len() {
         let refused = is_told_refused(terms, words[k], answer, output)?;
-        has_refused = either(refused, has_refused);
+        has_refused = is_any_refused(refused, has_refused);
     }
     output.flush()?;
     Ok(status_of(has_refused))
 }
 
-fn either(refused: bool, has_refused: bool) -> bool
+fn is_any_refused(refused: bool, has_refused: bool) -> bool
     ensures { result ≡ (refused || has_refused) }
 {
     refused || has_refused
@@ -73,7 +73,7 @@ fn is_told_refused<W: Write>(
 {
     let (_, pattern) = cut(word.as_bytes(), Kind::Blank);
     let report = report_of_pattern(terms, pattern)?;
-    let text = text_of(terms, pattern, &report, answer)?;
+    let text = pattern_text(terms, pattern, &report, answer)?;
     output.write_apart(text.as_str())?;
     Ok(is_refused(&report))
 }
@@ -99,7 +99,7 @@ fn report_of_pattern<'l, 't>(terms: &Terms<'_, 't>, pattern: &'l [u8]) -> io::Re
 }
 
 // What is told of a pattern with this report, as whole lines.
-fn text_of(
+fn pattern_text(
     terms: &Terms<'_, '_>,
     pattern: &[u8],
     report: &Report<'_, '_>,

@@ -28,7 +28,7 @@ use std::io::Write;
 /// What stands between two results.
 const BETWEEN: &str = ",\n";
 
-/// What stands behind all of them.
+/// What stands after all of them.
 const TAIL: &str = "\n]}]}\n";
 
 /// Writes one object of SARIF 2.1.0: the tool with its rules, and a result for each finding of each line and of each file as a

@@ -11,8 +11,8 @@ use Rattle.jiff_tz.specs.declared.timezone.TimeZone.{TimeZone}
 use Rattle.croncheck_runs.specs.Clock.{IsHeldSecond}
 use Rattle.croncheck_moments.specs.Moment.{seconds_around, shown_at, midnight_of, IsShownIn, IsAround, GoesOver, IsBegin, IsNoBegin, IsUnheld, IsFirstOf, IsLastBeforeNext, IsLastOf, LiesInDay, ShowsDate}
 
-none_behind : (first : ℤ) → (first +ℤ pos 0) ≡ first
-none_behind first = omega (arith, ints)
+none_after : (first : ℤ) → (first +ℤ pos 0) ≡ first
+none_after first = omega (arith, ints)
 
 one_less : (first : ℤ) (n : ℕ) → ((first +ℤ pos (n + 1)) -ℤ pos 1) ≡ (first +ℤ pos n)
 one_less first n = omega (arith, ints)
@@ -27,17 +27,17 @@ pub goes_over : (tz : TimeZone) (wall : ℤ) (before gap : ℕ) → 1 ≤ gap �
 goes_over tz wall before zero some small earlier later = absurd (omega (arith, some))
 goes_over tz wall before (suc zero) some small earlier later = record {
   before = subst (λ (i : ℤ). shown_at tz i <ℤ wall) (sym (one_less (wall -ℤ seconds_around) before)) earlier;
-  behind = later;
+  reached = later;
 }
 goes_over tz wall before (suc (suc gap)) some small earlier later = absurd (omega (arith, small))
 
 -- what lies around is not so
 pub not_held : (tz : TimeZone) (wall : ℤ) → ((IsHeldSecond (wall -ℤ seconds_around) × IsHeldSecond (wall +ℤ seconds_around)) → ⊥) → IsAround tz wall → ⊥
-not_held tz wall isnt a = isnt (a.held_before, a.held_behind)
+not_held tz wall isnt a = isnt (a.held_before, a.held_after)
 
 pub not_earlier : (tz : TimeZone) (wall : ℤ) → wall ≤ℤ shown_at tz ((wall -ℤ seconds_around) +ℤ pos 0) → IsAround tz wall → ⊥
 not_earlier tz wall later a =
-    let here = subst (λ (i : ℤ). wall ≤ℤ shown_at tz i) (none_behind (wall -ℤ seconds_around)) later in omega (arith, ints, here, a.earlier)
+    let here = subst (λ (i : ℤ). wall ≤ℤ shown_at tz i) (none_after (wall -ℤ seconds_around)) later in omega (arith, ints, here, a.earlier)
 
 pub not_later : (tz : TimeZone) (wall : ℤ) → shown_at tz ((wall -ℤ seconds_around) +ℤ pos 187_200) <ℤ wall → IsAround tz wall → ⊥
 not_later tz wall earlier a =

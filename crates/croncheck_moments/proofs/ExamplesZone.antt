@@ -9,22 +9,22 @@ use Rattle.croncheck_moments.specs.Zone.{fault_of_word, name_fault, setting_faul
 -- ---- what is wrong with a word
 
 -- in front of the minus stands a rule, UTC+2, and no name of one: so the plus is the sign
-hours_behind_the_first_sign : fault_of_word (codes "UTC+2-3") ≡ hours_fault (quote_text (codes "2-3"))
+hours_after_the_first_sign : fault_of_word (codes "UTC+2-3") ≡ hours_fault (quote_text (codes "2-3"))
 unfolding without_front split_at read_whole read_tz read_dst read_abbreviation read_quoted read_unquoted read_day_time read_day read_julian_zero read_julian_one read_weekday_of_month read_rule_time read_offset read_sign read_minutes read_sixty read_up_to_three read_up_to_two read_exactly_two read_digit read_byte
-hours_behind_the_first_sign = refl
+hours_after_the_first_sign = refl
 
 -- the signs of a name in quotes are none of the hours
-a_plus_behind_a_name_with_a_minus : fault_of_word (codes "<-03>+25") ≡ hours_fault (quote_text (codes "25"))
+a_plus_after_a_name_with_a_minus : fault_of_word (codes "<-03>+25") ≡ hours_fault (quote_text (codes "25"))
 unfolding without_front split_at read_whole read_tz read_dst read_abbreviation read_quoted read_unquoted read_day_time read_day read_julian_zero read_julian_one read_weekday_of_month read_rule_time read_offset read_sign read_minutes read_sixty read_up_to_three read_up_to_two read_exactly_two read_digit read_byte
-a_plus_behind_a_name_with_a_minus = refl
+a_plus_after_a_name_with_a_minus = refl
 
-a_minus_behind_a_name_with_a_minus : fault_of_word (codes "<-03>-25") ≡ hours_fault (quote_text (codes "25"))
+a_minus_after_a_name_with_a_minus : fault_of_word (codes "<-03>-25") ≡ hours_fault (quote_text (codes "25"))
 unfolding without_front split_at read_whole read_tz read_dst read_abbreviation read_quoted read_unquoted read_day_time read_day read_julian_zero read_julian_one read_weekday_of_month read_rule_time read_offset read_sign read_minutes read_sixty read_up_to_three read_up_to_two read_exactly_two read_digit read_byte
-a_minus_behind_a_name_with_a_minus = refl
+a_minus_after_a_name_with_a_minus = refl
 
-a_plus_behind_a_name_with_a_plus : fault_of_word (codes "<+03>+25") ≡ hours_fault (quote_text (codes "25"))
+a_plus_after_a_name_with_a_plus : fault_of_word (codes "<+03>+25") ≡ hours_fault (quote_text (codes "25"))
 unfolding without_front split_at read_whole read_tz read_dst read_abbreviation read_quoted read_unquoted read_day_time read_day read_julian_zero read_julian_one read_weekday_of_month read_rule_time read_offset read_sign read_minutes read_sixty read_up_to_three read_up_to_two read_exactly_two read_digit read_byte
-a_plus_behind_a_name_with_a_plus = refl
+a_plus_after_a_name_with_a_plus = refl
 
 too_many_hours : fault_of_word (codes "CET-25") ≡ hours_fault (quote_text (codes "25"))
 unfolding without_front split_at read_whole read_tz read_dst read_abbreviation read_quoted read_unquoted read_day_time read_day read_julian_zero read_julian_one read_weekday_of_month read_rule_time read_offset read_sign read_minutes read_sixty read_up_to_three read_up_to_two read_exactly_two read_digit read_byte

@@ -68,7 +68,7 @@ none_is_none : {A : Type 0} (r : Option A) → r ≡ None → IsSome r → ⊥
 none_is_none None is some = false≢true some
 none_is_none (Some x) is some = absurd (cc)
 
--- a text that can't be cut behind three bytes doesn't begin with that name
+-- a text that can't be cut after three bytes doesn't begin with that name
 pub no_name : (s : List ℕ) (r : Option (Bor (List ℕ) × Bor (List ℕ))) → IsUtf8 s → (IsSome r ↔ IsCharBoundary s 3) → r ≡ None → None ≡ utc_and_hours s
 no_name s r text cuts none =
     let other : is_utc_name (take 3 s) ≡ false = not_true _ (λ yes.

@@ -92,7 +92,7 @@ IsWallSecond wall = (neg_ℤ (pos 400_000_000_000) ≤ℤ wall) × (wall ≤ℤ 
 abbrev pub shown_at : TimeZone → ℤ → ℤ
 shown_at tz second = second +ℤ ahead_at tz second
 
--- so many seconds before a wall second a zone's clock shows none so late, and so many behind it one as late: 26 hours
+-- so many seconds before a wall second a zone's clock shows none so late, and so many after it one as late: 26 hours
 abbrev pub seconds_around : ℤ
 seconds_around = pos 93_600
 
@@ -100,17 +100,17 @@ seconds_around = pos 93_600
 abbrev pub seconds_across : ℕ
 seconds_across = 187_200
 
--- the seconds so far from a wall second are held, and the clock shows an earlier one before, and none behind
+-- the seconds so far from a wall second are held, and the clock shows an earlier one before, and none after
 pub record IsAround (tz : TimeZone) (wall : ℤ) : Type 0 where
   pub held_before : IsHeldSecond (wall -ℤ seconds_around)
-  pub held_behind : IsHeldSecond (wall +ℤ seconds_around)
+  pub held_after : IsHeldSecond (wall +ℤ seconds_around)
   pub earlier : shown_at tz (wall -ℤ seconds_around) <ℤ wall
   pub later : wall ≤ℤ shown_at tz (wall +ℤ seconds_around)
 
 -- the clock goes over a wall second that it doesn't show: at this second it shows a later one, and an earlier one in the second before
 pub record GoesOver (tz : TimeZone) (wall second : ℤ) : Type 0 where
   pub before : shown_at tz (second -ℤ pos 1) <ℤ wall
-  pub behind : wall ≤ℤ shown_at tz second
+  pub reached : wall ≤ℤ shown_at tz second
 
 -- midnight of a date, as a date and time
 pub record IsMidnight (date : Date) (civil : DateTime) : Type 0 where
@@ -118,7 +118,7 @@ pub record IsMidnight (date : Date) (civil : DateTime) : Type 0 where
   pub at_midnight : time_nanos civil.time ≡ 0
 
 -- where a date begins on a zone's clock: at the second at which it shows midnight, the earlier one of two; where it skips midnight, at the first
--- behind what it skips
+-- after what it skips
 abbrev pub IsBegin : TimeZone → Date → ℤ → Type 0
 IsBegin tz date second =
     (civil : DateTime) × IsMidnight date civil
@@ -154,12 +154,12 @@ abbrev pub IsUnheld : Option ℤ → Type 0
 IsUnheld None = ⊤
 IsUnheld (Some second) = ¬ (IsHeldSecond second)
 
--- where the date behind this one begins
+-- where the date after this one begins
 pub record BeginsNext (tz : TimeZone) (date next : Date) (begin : Option ℤ) : Type 0 where
   pub follows : epoch_day next ≡ epoch_day date +ℤ pos 1
   pub begins : IsBeginOf tz next begin
 
--- the second before that; there is none behind the last date, and where no second that is held is the next one's begin
+-- the second before that; there is none after the last date, and where no second that is held is the next one's begin
 abbrev pub IsLastBeforeNext : TimeZone → Date → Option ℤ → Type 0
 IsLastBeforeNext tz date None =
     ¬ (epoch_day date <ℤ last_epoch_day) ⊎ ((next : Date) × (begin : Option ℤ) × BeginsNext tz date next begin × IsUnheld begin)
@@ -186,7 +186,7 @@ IsLastUpTo tz now (moments.Second second) found = found ≡ Some second
 IsLastUpTo tz now (moments.Civil civil) found = IsShownIn tz civil found
 IsLastUpTo tz now (moments.Date date) found = IsLastOf tz date found
 
--- behind which second runs come from a moment on, whose second is this: a date's first second counts, another doesn't
+-- after which second runs come from a moment on, whose second is this: a date's first second counts, another doesn't
 abbrev pub start_from : Moment → ℤ → ℤ
 start_from moments.Now second = second
 start_from (moments.Second s) second = second

@@ -14,11 +14,11 @@ use Rattle.croncheck_runs.specs.Length.{length_text}
 
 -- ---- parts of a text
 
--- what stands behind this front of a text, if it begins so
+-- what stands after this front of a text, if it begins so
 unfoldable pub without_front : List ℕ → List ℕ → Option (List ℕ)
 without_front front text = if bytes_eq (take (length front) text) front then Some (drop (length front) text) else None
 
--- what stands before the first such byte, and what behind it
+-- what stands before the first such byte, and what after it
 unfoldable pub split_at : ℕ → List ℕ → Option (List ℕ × List ℕ)
 split_at at text =
     if position_or_len (λ b. b == at) text == length text then None
@@ -35,7 +35,7 @@ without_colon text = without_or_all (codes ":") text
 abbrev pub without_sign : List ℕ → List ℕ
 without_sign text = match_some (without_front (codes "+") text) (without_or_all (codes "-") text) (λ rest. rest)
 
--- the texts behind two references
+-- the texts after two references
 abbrev pub split_view : Option (Bor (List ℕ) × Bor (List ℕ)) → Option (List ℕ × List ℕ)
 split_view parts = option_map (λ p. (p.0.now, p.1.now)) parts
 
@@ -62,18 +62,18 @@ names_rule name = not (is_rule name) && is_rule (name ++ codes "0")
 
 -- ---- what stands in place of the hours
 
--- behind the first such sign of a word, if the name of a rule stands before it
+-- after the first such sign of a word, if the name of a rule stands before it
 abbrev pub hours_at : ℕ → List ℕ → Option (List ℕ)
 hours_at sign word = match_some (split_at sign word) None (λ p. if names_rule p.0 then Some p.1 else None)
 
--- behind a sign that follows a name which ends with `>`: one text stands before that, and one behind it
+-- after a sign that follows a name which ends with `>`: one text stands before that, and one after it
 abbrev pub hours_in_quotes : List ℕ → List ℕ → Option (List ℕ)
 hours_in_quotes front rest =
     if is_rule (front ++ codes ">0")
     then match_some (without_front (codes "-") rest) (without_front (codes "+") rest) (λ hours. Some hours)
     else None
 
--- of a word: behind its first minus, or else its first plus; of one with `>`, in which a name may have signs, behind that
+-- of a word: after its first minus, or else its first plus; of one with `>`, in which a name may have signs, after that
 abbrev pub hours_of : List ℕ → Option (List ℕ)
 hours_of word =
     match_some (split_at 62 word) (match_some (hours_at 45 word) (hours_at 43 word) (λ hours. Some hours)) (λ p. hours_in_quotes p.0 p.1)
@@ -146,11 +146,11 @@ abbrev pub fault_of_two : List ℕ → List ℕ → List ℕ
 fault_of_two first second =
     if is_some (split_at 44 second) then two_dates_fault else (if is_date first then fault_of_date second else fault_of_date first)
 
--- of what stands in front of the first comma, and behind it
+-- of what stands in front of the first comma, and after it
 abbrev pub fault_of_dates : List ℕ → List ℕ → List ℕ
-fault_of_dates front behind =
+fault_of_dates front after =
     if is_rule front then no_summer_fault front
-    else if is_front front then match_some (split_at 44 behind) two_dates_fault (λ p. fault_of_two p.0 p.1)
+    else if is_front front then match_some (split_at 44 after) two_dates_fault (λ p. fault_of_two p.0 p.1)
     else front_fault (quote_text front)
 
 -- of a word without a comma
@@ -161,11 +161,11 @@ fault_of_name word = if is_front word then no_dates_fault word else match_some (
 abbrev pub fault_of_parts : List ℕ → List ℕ
 fault_of_parts word = match_some (split_at 44 word) (fault_of_name word) (λ p. fault_of_dates p.0 p.1)
 
--- of one that begins with a colon, by the zone behind it: nothing is no name
+-- of one that begins with a colon, by the zone after it: nothing is no name
 abbrev pub fault_of_colon : List ℕ → List ℕ
 fault_of_colon zone = if length zone == 0 then name_fault else colon_fault (quote_text zone)
 
--- of one that begins with TZ=, by the zone behind it
+-- of one that begins with TZ=, by the zone after it
 abbrev pub fault_of_set_zone : List ℕ → List ℕ
 fault_of_set_zone zone = if length zone == 0 then name_fault else setting_fault (quote_text zone)
 
@@ -195,7 +195,7 @@ is_utc_name name = bytes_eq (str_to_ascii_lowercase name) (codes "gmt") || bytes
 abbrev pub is_no_letter : ℕ → Bool
 is_no_letter byte = not (is_ascii_alphabetic byte)
 
--- the name of UTC and what stands behind it, if no letter does: the names of a rule without summer time end there
+-- the name of UTC and what stands after it, if no letter does: the names of a rule without summer time end there
 abbrev pub utc_and_hours : List ℕ → Option (List ℕ × List ℕ)
 utc_and_hours word = if is_utc_name (take 3 word) && list_all is_no_letter (drop 3 word) then Some (take 3 word, drop 3 word) else None
 

@@ -44,7 +44,7 @@ pub(crate) fn last_second_of(date: Date, zone: &TimeZone<'_>) -> Option<i64>
     }
 }
 
-// The second before the date behind this one begins.
+// The second before the date after this one begins.
 fn last_before_next(date: Date, zone: &TimeZone<'_>) -> Option<i64>
     ensures { IsLastBeforeNext (plain_zone zone.now) date result }
 {
@@ -64,7 +64,7 @@ fn second_before(begin: Option<i64>) -> Option<i64>
     }
 }
 
-// The second with which a date begins: that at which the zone's clock shows midnight, the earlier one of two, or the first behind what it skips
+// The second with which a date begins: that at which the zone's clock shows midnight, the earlier one of two, or the first after what it skips
 // there. There is none where what lies around midnight isn't held.
 fn begin_of(date: Date, zone: &TimeZone<'_>) -> Option<i64>
     ensures { MatchOption result (IsNoBegin (plain_zone zone.now) date) (IsBegin (plain_zone zone.now) date) }
@@ -83,7 +83,7 @@ fn midnight_of(date: Date) -> i64
     date.to_plain().to_unix_epoch_day() as i64 * DAY_SECONDS
 }
 
-// The first second behind a wall second that the zone's clock goes over, where what lies around it is held.
+// The first second after a wall second that the zone's clock goes over, where what lies around it is held.
 fn first_over(wall: i64, zone: &TimeZone<'_>) -> Option<i64>
     requires { IsWallSecond wall }
     ensures { MatchOption result (¬ (IsAround (plain_zone zone.now) wall)) (GoesOver (plain_zone zone.now) wall) }
@@ -109,7 +109,7 @@ fn is_held_around(wall: i64) -> bool
     FIRST_TIMESTAMP + SECONDS_AROUND <= wall && wall <= LAST_TIMESTAMP - SECONDS_AROUND
 }
 
-// The first second behind a wall second that the zone's clock goes over: it shows an earlier one at the first of the seconds around, and none at
+// The first second after a wall second that the zone's clock goes over: it shows an earlier one at the first of the seconds around, and none at
 // the last.
 fn second_over(wall: i64, zone: &TimeZone<'_>) -> i64
     requires wall { IsWallSecond wall }
@@ -132,24 +132,24 @@ fn second_over(wall: i64, zone: &TimeZone<'_>) -> i64
     second_around(wall, before + gap)
 }
 
-// The second so many behind the first of those around a wall second.
-fn second_around(wall: i64, behind: u32) -> i64
+// The second so many after the first of those around a wall second.
+fn second_around(wall: i64, seconds: u32) -> i64
     requires wall { IsWallSecond wall }
-    requires within { behind ≤ seconds_across }
-    ensures { result ≡ (wall -ℤ seconds_around) +ℤ pos behind }
+    requires within { seconds ≤ seconds_across }
+    ensures { result ≡ (wall -ℤ seconds_around) +ℤ pos seconds }
 {
-    wall - SECONDS_AROUND + behind as i64
+    wall - SECONDS_AROUND + seconds as i64
 }
 
 // Whether the zone's clock shows a second earlier than a wall second there.
-fn is_earlier(wall: i64, zone: &TimeZone<'_>, behind: u32) -> bool
+fn is_earlier(wall: i64, zone: &TimeZone<'_>, seconds: u32) -> bool
     requires wall { IsWallSecond wall }
-    requires within { behind ≤ seconds_across }
+    requires within { seconds ≤ seconds_across }
     requires held { IsHeldSecond (wall -ℤ seconds_around) × IsHeldSecond (wall +ℤ seconds_around) }
-    ensures earlier { OnTrue result (shown_at (plain_zone zone.now) ((wall -ℤ seconds_around) +ℤ pos behind) <ℤ wall) }
-    ensures later { OnFalse result (wall ≤ℤ shown_at (plain_zone zone.now) ((wall -ℤ seconds_around) +ℤ pos behind)) }
+    ensures earlier { OnTrue result (shown_at (plain_zone zone.now) ((wall -ℤ seconds_around) +ℤ pos seconds) <ℤ wall) }
+    ensures later { OnFalse result (wall ≤ℤ shown_at (plain_zone zone.now) ((wall -ℤ seconds_around) +ℤ pos seconds)) }
 {
-    shown_at(zone, second_around(wall, behind)) < wall
+    shown_at(zone, second_around(wall, seconds)) < wall
 }
 
 /// Whether the zone's clock shows a date at a second.

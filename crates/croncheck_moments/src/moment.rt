@@ -166,7 +166,7 @@ pub fn last_up_to(moment: Moment, zone: &TimeZone<'_>, now: i64) -> Option<i64>
     }
 }
 
-/// Behind which second runs come from a moment on, whose second is this: of a date its first second counts, of another moment its second
+/// After which second runs come from a moment on, whose second is this: of a date its first second counts, of another moment its second
 /// doesn't.
 pub fn start_from(moment: Moment, second: i64) -> i64
     ensures { IsHeldSecond second → result ≡ start_from moment second }
@@ -181,14 +181,18 @@ pub(crate) fn second_shown(civil: DateTime, zone: &TimeZone<'_>) -> Option<i64>
     ensures { IsShownIn (plain_zone zone.now) civil result }
 {
     let found = zone.to_ambiguous_timestamp(civil);
-    match if_shown(civil, zone, found.earlier()) {
+    match second_if_shown(civil, zone, found.earlier()) {
         Some(second) => Some(second),
-        None => if_shown(civil, zone, found.later()),
+        None => second_if_shown(civil, zone, found.later()),
     }
 }
 
 // The second of an instant at which the zone's clock shows a date and time.
-fn if_shown(civil: DateTime, zone: &TimeZone<'_>, instant: Result<Timestamp, Error>) -> Option<i64>
+fn second_if_shown(
+    civil: DateTime,
+    zone: &TimeZone<'_>,
+    instant: Result<Timestamp, Error>,
+) -> Option<i64>
     ensures { (offset : Offset) → IsInstantAt civil offset instant → IsShownAt (plain_zone zone.now) civil (instant_of civil offset) result }
 {
     match instant {
@@ -215,21 +219,21 @@ pub fn last_of_week(zone: &TimeZone<'_>, second: i64) -> Option<i64>
     ensures { IfSome result (IsEndOfWeek (plain_zone zone.now) second) }
 {
     let today = date_at(zone, second)?;
-    let sixth = sixth_after(today)?;
+    let sixth = sixth_date_after(today)?;
     last_second_of(sixth, zone)
 }
 
 // The sixth date after one, where there is one.
 #[tactic(auto, using(crate::proofs::DatesAfter::dates_after))]
-fn sixth_after(date: Date) -> Option<Date>
+fn sixth_date_after(date: Date) -> Option<Date>
     ensures { IfSome result (λ sixth. epoch_day sixth ≡ epoch_day date +ℤ pos 6) }
 {
-    let third = third_after(date)?;
-    third_after(third)
+    let third = third_date_after(date)?;
+    third_date_after(third)
 }
 
 #[tactic(auto, using(crate::proofs::DatesAfter::dates_after))]
-fn third_after(date: Date) -> Option<Date>
+fn third_date_after(date: Date) -> Option<Date>
     ensures { IfSome result (λ third. epoch_day third ≡ epoch_day date +ℤ pos 3) }
 {
     let first = date_after(date)?;

@@ -42,9 +42,9 @@ impl fmt::Display for Quote<'_> {
 pub enum ZoneFault<'w> {
     /// It isn't near to a rule.
     Name,
-    /// It begins with `TZ=`, and this zone stands behind it.
+    /// It begins with `TZ=`, and this zone stands after it.
     Setting(Quote<'w>),
-    /// It begins with a colon, and this zone stands behind it.
+    /// It begins with a colon, and this zone stands after it.
     Colon(Quote<'w>),
     /// It begins as a rule does, with this in place of the hours.
     Hours(Quote<'w>),
@@ -58,7 +58,7 @@ pub enum ZoneFault<'w> {
     Front(Quote<'w>),
     /// This date is wrong.
     Date(Quote<'w>),
-    /// The time behind a date is wrong.
+    /// The time after a date is wrong.
     Time(Quote<'w>),
 }
 
@@ -76,10 +76,10 @@ pub fn refusal_of(alloc: Global, word: &str) -> Result<String, AllocError>
 fn fault_of<'w>(alloc: Global, word: &'w str) -> Result<ZoneFault<'w>, AllocError>
     ensures { IfOk result (λ fault. fault_text fault ≡ fault_of_word word.now) }
 {
-    if let Some(rest) = without(word, "TZ=") {
+    if let Some(rest) = without_front(word, "TZ=") {
         return Ok(fault_of_setting(rest));
     }
-    if let Some(rest) = without(word, ":") {
+    if let Some(rest) = without_front(word, ":") {
         return Ok(fault_of_colon(rest));
     }
     match split(word, ',') {
@@ -88,7 +88,7 @@ fn fault_of<'w>(alloc: Global, word: &'w str) -> Result<ZoneFault<'w>, AllocErro
     }
 }
 
-// What is wrong with a word that begins with `TZ=`, behind which this stands.
+// What is wrong with a word that begins with `TZ=`, after which this stands.
 fn fault_of_setting<'w>(rest: &'w str) -> ZoneFault<'w>
     ensures { fault_text result ≡ fault_of_setting rest.now }
 {
@@ -106,7 +106,7 @@ fn fault_of_set_zone<'w>(zone: &'w str) -> ZoneFault<'w>
     }
 }
 
-// What is wrong with a word that begins with a colon, behind which this zone stands.
+// What is wrong with a word that begins with a colon, after which this zone stands.
 fn fault_of_colon<'w>(zone: &'w str) -> ZoneFault<'w>
     ensures { fault_text result ≡ fault_of_colon zone.now }
 {
@@ -121,7 +121,7 @@ fn fault_of_colon<'w>(zone: &'w str) -> ZoneFault<'w>
 fn without_colon(text: &str) -> &str
     ensures { result.now ≡ without_colon text.now }
 {
-    match without(text, ":") {
+    match without_front(text, ":") {
         Some(rest) => rest,
         None => text,
     }
@@ -153,7 +153,7 @@ fn hours_of<'w>(alloc: Global, word: &'w str) -> Result<Option<&'w str>, AllocEr
     }
 }
 
-// The same of a word whose name ends with `>`: this stands before it, and that behind it.
+// The same of a word whose name ends with `>`: this stands before it, and that after it.
 fn hours_in_quotes<'w>(
     alloc: Global,
     front: &str,
@@ -165,13 +165,13 @@ fn hours_in_quotes<'w>(
     if !is_rule(rule.as_str()) {
         return Ok(None);
     }
-    match without(rest, "-") {
+    match without_front(rest, "-") {
         Some(hours) => Ok(Some(hours)),
-        None => Ok(without(rest, "+")),
+        None => Ok(without_front(rest, "+")),
     }
 }
 
-// What stands behind the first such sign of a word, if the name of a rule stands before it.
+// What stands after the first such sign of a word, if the name of a rule stands before it.
 fn hours_at<'w>(alloc: Global, word: &'w str, sign: char) -> Result<Option<&'w str>, AllocError>
     requires { sign < 128 }
     ensures { IfOk result (λ found. option_map (λ hours. hours.now) found ≡ hours_at sign word.now) }
@@ -257,15 +257,15 @@ fn is_rule(text: &str) -> bool
     TimeZone::posix(text).is_ok()
 }
 
-// What stands behind the front of a text, if it begins with that.
+// What stands after the front of a text, if it begins with that.
 #[tactic(auto, using(crate::proofs::ZoneWords::strip_prefix))]
-fn without<'w>(text: &'w str, front: &str) -> Option<&'w str>
+fn without_front<'w>(text: &'w str, front: &str) -> Option<&'w str>
     ensures { option_map (λ rest. rest.now) result ≡ without_front front.now text.now }
 {
     text.strip_prefix(front)
 }
 
-// What stands before the first such byte of a text, and what behind it.
+// What stands before the first such byte of a text, and what after it.
 #[tactic(auto, using(crate::proofs::ZoneWords::split_once))]
 fn split(text: &str, at: char) -> Option<(&str, &str)>
     requires { at < 128 }
@@ -274,7 +274,7 @@ fn split(text: &str, at: char) -> Option<(&str, &str)>
     text.split_once(at)
 }
 
-/// What is said of the word behind it: what is wrong with it, and what to write.
+/// What is said of the word after it: what is wrong with it, and what to write.
 impl fmt::Display for ZoneFault<'_> {
     ghost use Rattle.std.specs.Prelude.{Some};
     ghost use Rattle.croncheck_moments.specs.Zone.{fault_text};
@@ -346,7 +346,7 @@ fn note_by(alloc: Global, word: &str, ahead: i32) -> Result<Option<String>, Allo
     }
 }
 
-// The name of UTC and what stands behind it, in a rule without summer time.
+// The name of UTC and what stands after it, in a rule without summer time.
 fn utc_and_hours(word: &str) -> Option<(&str, &str)>
     ensures { split_view result ≡ utc_and_hours word.now }
 {
@@ -425,9 +425,9 @@ fn ahead_text(
 fn without_sign(text: &str) -> &str
     ensures { result.now ≡ without_sign text.now }
 {
-    match without(text, "+") {
+    match without_front(text, "+") {
         Some(rest) => rest,
-        None => match without(text, "-") {
+        None => match without_front(text, "-") {
             Some(rest) => rest,
             None => text,
         },

@@ -9,7 +9,7 @@ use Rattle.std.specs.Ordering.{int_eq}
 use Rattle.std.specs.Prelude.{nat_lt, unsigned_abs, ◌-ℤ◌, option_map}
 use Rattle.croncheck_runs.specs.declared.runs.Run.{Run}
 use Rattle.croncheck_often.specs.Often.{date_of_run, added_on, starts_on, IsMostADay, from_before, from_first, distances, IsShortest}
-use Rattle.croncheck_often.specs.Private.Often.{greater, shorter, distance_of}
+use Rattle.croncheck_often.specs.Private.Often.{greater_of, shorter_of, distance_of}
 
 -- ---- starts on a date
 
@@ -45,7 +45,7 @@ no_more runs i d most n top h few count old here q = by_eq (int_eq (date_of_run 
 
 -- the most on one date, with one run more
 most-more : (runs : List Run) (i : ℕ) (d : Run) (most n : ℕ) → i < length runs → IsMostADay (take i runs) most
-    → n ≡ starts_on (date_of_run (get_or runs i d)) (take (i + 1) runs) → IsMostADay (take (i + 1) runs) (greater most n)
+    → n ≡ starts_on (date_of_run (get_or runs i d)) (take (i + 1) runs) → IsMostADay (take (i + 1) runs) (greater_of most n)
 most-more runs i d most n h old count = by_lt (nat_lt most n) refl where
   by_lt : (b : Bool) → nat_lt most n ≡ b → IsMostADay (take (i + 1) runs) (if b then n else most)
   by_lt true e =
@@ -67,7 +67,7 @@ most-more runs i d most n h old count = by_lt (nat_lt most n) refl where
 -- the same, by counts on each date that were kept
 pub most-step : (runs : List Run) (i : ℕ) (run : Run) (old new : ℤ → ℕ) (most n top : ℕ) → i < length runs → run ≡ get_or runs i run
     → ((date : ℤ) → new date ≡ old date + added_on date run) → ((date : ℤ) → old date ≡ starts_on date (take i runs)) → n ≡ new (date_of_run run)
-    → top ≡ greater most n → IsMostADay (take i runs) most → IsMostADay (take (i + 1) runs) top
+    → top ≡ greater_of most n → IsMostADay (take i runs) most → IsMostADay (take (i + 1) runs) top
 most-step runs i run old new most n top h is added counted here top_is before =
     let day : ℤ = date_of_run run in
     let count : n ≡ starts_on day (take (i + 1) runs) = here ∙ counted-step day runs i run (old day) (new day) h is (added day) (counted day) in
@@ -82,9 +82,9 @@ most-none = record { date = pos 0; reached = refl; none_more = λ other. omega a
 contains-head : (x : ℕ) (xs : List ℕ) → Contains (x ∷ xs) x
 contains-head x xs = (0, omega arith, refl)
 
-nothing_behind : (xs : List ℕ) → xs ++ [] ≡ xs
-nothing_behind [] = refl
-nothing_behind (x ∷ xs) = ap (λ ys. x ∷ ys) (nothing_behind xs)
+nothing_after : (xs : List ℕ) → xs ++ [] ≡ xs
+nothing_after [] = refl
+nothing_after (x ∷ xs) = ap (λ ys. x ∷ ys) (nothing_after xs)
 
 joined : (xs ys zs : List ℕ) → (xs ++ ys) ++ zs ≡ xs ++ (ys ++ zs)
 joined [] ys zs = refl
@@ -93,7 +93,7 @@ joined (x ∷ xs) ys zs = ap (λ rest. x ∷ rest) (joined xs ys zs)
 -- the shortest of two lists' distances is the shorter of theirs
 shortest-joined : (xs ys : List ℕ) (a b : Option ℕ) → IsShortest xs a → IsShortest ys b → IsShortest (xs ++ ys) (shorter a b)
 shortest-joined xs ys None b none other = subst (λ zs. IsShortest (zs ++ ys) b) (sym none) other
-shortest-joined xs ys (Some x) None one none = subst (λ zs. IsShortest (xs ++ zs) (Some x)) (sym none) (subst (λ zs. IsShortest zs (Some x)) (sym (nothing_behind xs)) one)
+shortest-joined xs ys (Some x) None one none = subst (λ zs. IsShortest (xs ++ zs) (Some x)) (sym none) (subst (λ zs. IsShortest zs (Some x)) (sym (nothing_after xs)) one)
 shortest-joined xs ys (Some x) (Some y) one other = by_lt (nat_lt y x) refl where
   by_lt : (t : Bool) → nat_lt y x ≡ t → IsShortest (xs ++ ys) (if t then Some y else Some x)
   by_lt true e =
@@ -131,7 +131,7 @@ seen-none runs = record { found = []; left = refl; least = refl }
 
 -- those of one run more
 seen-more : (runs : List Run) (i : ℕ) (d : Run) (before : Option ℤ) (shortest : Option ℕ) → i < length runs → Seen runs i before shortest
-    → Seen runs (i + 1) (Some (get_or runs i d).time.second) (shorter shortest (distance_of before (get_or runs i d)))
+    → Seen runs (i + 1) (Some (get_or runs i d).time.second) (shorter_of shortest (distance_of before (get_or runs i d)))
 seen-more runs i d before shortest h seen =
     let run : Run = get_or runs i d in
     let here : List ℕ = from_before before run ++ from_first run in
@@ -147,7 +147,7 @@ pub seen-step : (runs : List Run) (i : ℕ) (run : Run) (before : Option ℤ) (s
     → run ≡ get_or runs i run → Seen runs i before shortest → distance ≡ distance_of before run → shorter_one ≡ shorter shortest distance
     → second ≡ run.time.second → Seen runs (i + 1) (Some second) shorter_one
 seen-step runs i run before shortest distance shorter_one second h is seen distance_is shorter_is second_is =
-    let found : shorter_one ≡ shorter shortest (distance_of before (get_or runs i run)) =
+    let found : shorter_one ≡ shorter_of shortest (distance_of before (get_or runs i run)) =
     shorter_is ∙ ap (shorter shortest) (distance_is ∙ ap (distance_of before) is) in
     let at : second ≡ (get_or runs i run).time.second = second_is ∙ ap (λ (x : Run). x.time.second) is in
     subst (λ (x : ℤ). Seen runs (i + 1) (Some x) shorter_one) (sym at)
@@ -158,7 +158,7 @@ pub seen-all : (runs : List Run) (i : ℕ) (before : Option ℤ) (shortest : Opt
     → IsShortest (distances None runs) shortest
 seen-all runs i before shortest all seen =
     let rest : distances before (drop i runs) ≡ [] = at_drop_all (distances before) runs i (omega (arith, all)) in
-    subst (λ xs. IsShortest xs shortest) (sym (nothing_behind seen.found) ∙ ap (λ rest. seen.found ++ rest) (sym rest) ∙ seen.left) seen.least
+    subst (λ xs. IsShortest xs shortest) (sym (nothing_after seen.found) ∙ ap (λ rest. seen.found ++ rest) (sym rest) ∙ seen.left) seen.least
 
 pub ruleset counted = (added_on_small, most-none)
 

@@ -7,7 +7,7 @@ use Rattle.croncheck_often.specs.declared.often.Reach.TheVariants as reaches
 use Rattle.croncheck_runs.specs.declared.runs.End.TheVariants as ends
 use Rattle.croncheck_runs.specs.declared.runs.Listing.TheVariants as listings
 use Rattle.croncheck_runs.specs.declared.runs.Run.{Run}
-use Rattle.croncheck_often.specs.Often.{span_end, starts_in, date_of_run, added_on, starts_on, distances, IsShortest, reach_of, last_of, counted_until}
+use Rattle.croncheck_often.specs.Often.{span_end, starts_in, date_of_run, added_on, starts_on, distances, IsShortest, reach_of, last_of, last_counted}
 
 -- from 2027-03-26T12:00:00 in Stockholm seven days on, which end at 13:00 by its clock; and up to a second that is given
 seven_days : span_end (pos 1_806_058_800) (listings.Count 3) ≡ pos 1_806_663_600
@@ -61,16 +61,16 @@ the_shortest = (
 of_one_start : (run : Run) → run.count ≡ 1 → IsShortest (distances None (run ∷ [])) None
 of_one_start run one = rw one refl
 
--- a window that ends at a second, and a span that ends there or behind it
+-- a window that ends at a second, and a span that ends there or after it
 to_the_end_of_both : reach_of (Some (pos 9)) (pos 9) ends.Window ≡ reaches.Whole
 to_the_end_of_both = refl
 
 to_the_end_of_the_window : reach_of (Some (pos 9)) (pos 10) ends.Window ≡ reaches.Window
 to_the_end_of_the_window = refl
 
-up_to_the_window : counted_until (Some (pos 9)) (pos 1) (pos 10) [] reaches.Window ≡ pos 9
+up_to_the_window : last_counted (Some (pos 9)) (pos 1) (pos 10) [] reaches.Window ≡ pos 9
 up_to_the_window = refl
 
 -- a list that was cut, of none
-up_to_the_start : counted_until None (pos 1) (pos 10) [] reaches.Cut ≡ pos 1
+up_to_the_start : last_counted None (pos 1) (pos 10) [] reaches.Cut ≡ pos 1
 up_to_the_start = refl

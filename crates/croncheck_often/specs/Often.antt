@@ -1,4 +1,4 @@
--- How often a job starts in a span behind a start. Source: this crate's documentation of `Often` and `Reach`.
+-- How often a job starts in a span after a start. Source: this crate's documentation of `Often` and `Reach`.
 use Rattle.std.specs.Prelude.{◌≡◌, ⊤, ◌≤◌, ℕ, ℤ, pos, ◌-◌, ◌+ℤ◌, ◌-ℤ◌, nat_lt, int_lt, unsigned_abs, Bool, false, List, [], ◌∷◌, ◌++◌, length, sum_by, slice_get, unwrap_or, Option, Some, None, option_map, if◌then◌else◌}
 use Rattle.std.specs.List.{All, Contains}
 use Rattle.std.specs.Ordering.{int_eq}
@@ -16,7 +16,7 @@ use Rattle.croncheck_runs.specs.declared.runs.Run.{Run}
 use Rattle.croncheck_runs.specs.declared.runs.Runs.{Runs}
 use Rattle.croncheck_runs.specs.Runs.{Listed, IsListed}
 
--- the end of the span behind a start: the second up to which runs are listed, or that with which seven days end
+-- the end of the span after a start: the second up to which runs are listed, or that with which seven days end
 abbrev pub span_end : ℤ → Listing → ℤ
 span_end start (listings.Count count) = start +ℤ pos 604_800
 span_end start (listings.Until until) = until
@@ -86,17 +86,17 @@ abbrev pub last_of : ℤ → List Run → ℤ
 last_of from runs = unwrap_or (option_map (λ run. run.time.second) (slice_get runs (length runs - 1))) from
 
 -- the last second whose starts are counted
-abbrev pub counted_until : Option ℤ → ℤ → ℤ → List Run → Reach → ℤ
-counted_until last from until runs reaches.Whole = until
-counted_until last from until runs reaches.Cut = last_of from runs
-counted_until last from until runs reaches.Window = unwrap_or last until
-counted_until last from until runs reaches.Failed = last_of from runs
+abbrev pub last_counted : Option ℤ → ℤ → ℤ → List Run → Reach → ℤ
+last_counted last from until runs reaches.Whole = until
+last_counted last from until runs reaches.Cut = last_of from runs
+last_counted last from until runs reaches.Window = unwrap_or last until
+last_counted last from until runs reaches.Failed = last_of from runs
 
--- what is counted of a listing of the starts behind one second, up to another
+-- what is counted of a listing of the starts after one second, up to another
 pub record Counts (last : Option ℤ) (from until : ℤ) (r : Runs) (o : Often) : Type 0 where
   pub from_is : o.from ≡ from
   pub reach_is : o.reach ≡ reach_of last until r.end
-  pub until_is : o.until ≡ counted_until last from until r.items.items o.reach
+  pub until_is : o.until ≡ last_counted last from until r.items.items o.reach
   pub starts_are : o.starts ≡ starts_in r.items.items
   pub most_is : IsMostADay r.items.items o.most_a_day
   pub shortest_is : IsShortest (distances None r.items.items) o.shortest

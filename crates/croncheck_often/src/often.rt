@@ -1,12 +1,12 @@
-//! How often a job starts in a span behind a start.
+//! How often a job starts in a span after a start.
 ghost use Rattle.std.specs.Prelude.{◌≡◌, ◌+◌, ◌≤◌, ◌^◌, ℤ, length, unwrap_or, None, IsTrue, IfOk, IfErr, OnOk};
 ghost use Rattle.std.specs.BTreeMap.{get};
 ghost use Rattle.std.specs.Ordering.{int_cmp};
 ghost use Rattle.croner_base.specs.Table.{is_table_second};
 ghost use Rattle.croner.specs.Views.{job_of};
 ghost use Rattle.crontab_runs.specs.Views.{cron_job_of};
-ghost use Rattle.croncheck_often.specs.Often.{span_end, starts_in, date_of_run, added_on, IsMostADay, distances, IsShortest, ends_before, reach_of, last_of, counted_until, Counts, IsOften, AreOften};
-ghost use Rattle.croncheck_often.specs.Private.Often.{greater, shorter, distance_of};
+ghost use Rattle.croncheck_often.specs.Often.{span_end, starts_in, date_of_run, added_on, IsMostADay, distances, IsShortest, ends_before, reach_of, last_of, last_counted, Counts, IsOften, AreOften};
+ghost use Rattle.croncheck_often.specs.Private.Often.{greater_of, shorter_of, distance_of};
 ghost use Rattle.croncheck_runs.specs.Runs.{runs_listed, starts_listed};
 
 use croncheck_runs::runs::{End, Listing, Run, Runs, runs_of, starts_of};
@@ -27,12 +27,12 @@ const SPAN_SECONDS: i64 = SPAN_DAYS * DAY;
 /// The seconds of a day, as wall seconds are counted.
 const DAY: i64 = SECONDS_PER_DAY as i64;
 
-/// How often a job starts in a span behind a start, which doesn't count itself.
+/// How often a job starts in a span after a start, which doesn't count itself.
 #[derive(Clone, Copy, Drop)]
 pub struct Often {
     /// The second of the start, counted from 1970-01-01T00:00:00 UTC.
     pub from: i64,
-    /// The last second whose starts are counted: each behind the start and up to it is, and none behind it.
+    /// The last second whose starts are counted: each after the start and up to it is, and none after it.
     pub until: i64,
     /// Whether that is the end of the span.
     pub reach: Reach,
@@ -40,7 +40,7 @@ pub struct Often {
     pub starts: u64,
     /// How many of them there are on one date of the zone's clock at most.
     pub most_a_day: u64,
-    /// How many seconds one start is behind the one before it at least: 0 where two are at one second. `None` where there are fewer than two.
+    /// How many seconds one start is after the one before it at least: 0 where two are at one second. `None` where there are fewer than two.
     pub shortest: Option<u64>,
 }
 
@@ -51,13 +51,13 @@ pub enum Reach {
     Whole,
     /// To the last of the most runs that are listed.
     Cut,
-    /// To the end of the clock's window, behind which the span goes on.
+    /// To the end of the clock's window, after which the span goes on.
     Window,
     /// To the last run in front of a search that was refused.
     Failed,
 }
 
-/// The end of the span behind a start: the second up to which runs are listed, or that with which seven days end.
+/// The end of the span after a start: the second up to which runs are listed, or that with which seven days end.
 pub fn span_end(start: i64, listing: Listing) -> i64
     requires { IsTrue (is_table_second start) }
     ensures { result ≡ span_end start listing }
@@ -68,7 +68,7 @@ pub fn span_end(start: i64, listing: Listing) -> i64
     }
 }
 
-/// How often a pattern runs behind a start up to a second, where that is asked for, on a clock whose window ends there or not.
+/// How often a pattern runs after a start up to a second, where that is asked for, on a clock whose window ends there or not.
 ///
 /// It takes the room of a listing up to a second. The only error is `OutOfMemory`.
 pub fn often_of_pattern(
@@ -83,7 +83,7 @@ pub fn often_of_pattern(
 {
     match until {
         Some(until) => {
-            let often = pattern_until(alloc, job, start, last, until)?;
+            let often = often_of_pattern_until(alloc, job, start, last, until)?;
             Ok(Some(often))
         }
         None => Ok(None),
@@ -103,7 +103,7 @@ pub fn often_of_crontab(
 {
     match until {
         Some(until) => {
-            let often = crontab_until(alloc, job, start, last, until)?;
+            let often = often_of_crontab_until(alloc, job, start, last, until)?;
             Ok(Some(often))
         }
         None => Ok(None),
@@ -112,7 +112,7 @@ pub fn often_of_crontab(
 
 // How often a pattern runs up to a second.
 #[tactic(auto, using(crate::proofs::OftenTold::few_listed))]
-fn pattern_until(
+fn often_of_pattern_until(
     alloc: Global,
     job: &Cron,
     start: TableTime<'_>,
@@ -129,7 +129,7 @@ fn pattern_until(
 
 // How often cron starts a crontab's job up to a second.
 #[tactic(auto, using(crate::proofs::OftenTold::few_listed))]
-fn crontab_until(
+fn often_of_crontab_until(
     alloc: Global,
     job: &CrontabJob,
     start: TableTime<'_>,
@@ -144,7 +144,7 @@ fn crontab_until(
     Ok(often)
 }
 
-// What is counted of a listing of the runs behind a start, up to a second.
+// What is counted of a listing of the runs after a start, up to a second.
 fn often_of(
     alloc: Global,
     runs: &Runs<'_>,
@@ -160,7 +160,7 @@ fn often_of(
     let most_a_day = most_a_day(alloc, items)?;
     Ok(Often {
         from,
-        until: counted_until(items, from, last, until, reach),
+        until: last_counted(items, from, last, until, reach),
         reach,
         starts: starts_in(items),
         most_a_day,
@@ -194,8 +194,8 @@ fn ends_before(last: Option<i64>, until: i64) -> bool
 }
 
 // The last second whose starts are counted.
-fn counted_until(runs: &[Run<'_>], from: i64, last: Option<i64>, until: i64, reach: Reach) -> i64
-    ensures { result ≡ counted_until last from until runs.now reach }
+fn last_counted(runs: &[Run<'_>], from: i64, last: Option<i64>, until: i64, reach: Reach) -> i64
+    ensures { result ≡ last_counted last from until runs.now reach }
 {
     match reach {
         Reach::Whole => until,
@@ -238,7 +238,7 @@ fn most_a_day(alloc: Global, runs: &[Run<'_>]) -> Result<u64, AllocError>
     let mut most = 0;
     for run in runs {
         let count = add_run(&mut counts, run)?;
-        most = greater(most, count);
+        most = greater_of(most, count);
     }
     Ok(most)
 }
@@ -266,8 +266,8 @@ fn date_of_run(run: &Run<'_>) -> i64
     wall.div_euclid(DAY)
 }
 
-fn greater(a: u64, b: u64) -> u64
-    ensures { result ≡ greater a b }
+fn greater_of(a: u64, b: u64) -> u64
+    ensures { result ≡ greater_of a b }
 {
     if a < b { b } else { a }
 }
@@ -282,7 +282,7 @@ fn shortest_of(runs: &[Run<'_>]) -> Option<u64>
     let mut before = None;
     let mut shortest = None;
     for run in runs {
-        shortest = shorter(shortest, distance_of(before, run));
+        shortest = shorter_of(shortest, distance_of(before, run));
         before = Some(run.time.second());
     }
     shortest
@@ -300,8 +300,8 @@ fn distance_of(before: Option<i64>, run: &Run<'_>) -> Option<u64>
 }
 
 // The shorter of two distances that there may be.
-fn shorter(distance: Option<u64>, other: Option<u64>) -> Option<u64>
-    ensures { result ≡ shorter distance other }
+fn shorter_of(distance: Option<u64>, other: Option<u64>) -> Option<u64>
+    ensures { result ≡ shorter_of distance other }
 {
     match (distance, other) {
         (Some(distance), Some(other)) if other < distance => Some(other),

@@ -13,7 +13,7 @@ use Rattle.bstr.specs.Utf8.{decoded, good}
 use Rattle.bstr.proofs.lemmas.PieceLemmas.{piece-bounds, value-1}
 use Rattle.croner_base.specs.Excerpt.{is_among, is_control, ends_a_line, turns_round, has_no_width, has_no_width_above, is_unseen, shown}
 use Rattle.croncheck_output.specs.Escaped.{front_shown, front_size, shown_from, bytes_shown, is_harmless, is_printed}
-use Rattle.croncheck_output.proofs.ShownBytes.{front_of, behind_front, shown_step}
+use Rattle.croncheck_output.proofs.ShownBytes.{front_of, after_front, shown_step}
 
 -- no terminal acts on these bytes
 record AreHarmless (bs : List ℕ) : Type 0 where
@@ -181,8 +181,8 @@ fuel_harmless (suc f) [] h = none
 fuel_harmless (suc f) (b ∷ bs) h =
     let first : nat_lt b 256 ≡ true = (and_parts (nat_lt b 256) (list_all (λ x. nat_lt x 256) bs) h).0 in
     let small : b < 256 = grind (arith, nat_tests) in
-    joined (front_of (b ∷ bs)) (shown_from f (behind_front (b ∷ bs))) (front_harmless (decoded (b ∷ bs)).char b bs small)
-    (fuel_harmless f (behind_front (b ∷ bs)) (drop_bytes _ (b ∷ bs) h))
+    joined (front_of (b ∷ bs)) (shown_from f (after_front (b ∷ bs))) (front_harmless (decoded (b ∷ bs)).char b bs small)
+    (fuel_harmless f (after_front (b ∷ bs)) (drop_bytes _ (b ∷ bs) h))
 
 pub all_small : (bs : List ℕ) → ((k : ℕ) → slice_index bs k < 256) → AreBytes bs
 all_small [] h = refl

@@ -1,4 +1,4 @@
--- Texts that are written one behind the other.
+-- Texts that are written one after the other.
 use Rattle.std.proofs.Common.{◌≡◌, ◌∙◌, ◌<◌, ◌&&◌, ◌||◌, ℕ, Bool, true, false, List, [], ◌∷◌, ◌++◌, Option, length, sym, subst, refl, arith}
 use Rattle.std.specs.Prelude.{if◌then◌else◌}
 use Rattle.std.specs.Io.KnownBytes.{Appends}
@@ -37,13 +37,13 @@ next_text (x ∷ xs) old new some next writes =
     let P : Bool → Type 0 = λ b. Appends old.contents new.contents (if b && true then 10 ∷ (x ∷ xs) else (x ∷ xs)) in
     (subst P (sym next) writes.0, writes.1 ∙ next ∙ or_some old.is_begun)
 
--- a text behind a line feed
-pub text_behind : (text : List ℕ) (old between new : Written) → WritesText (10 ∷ []) old between → WritesText text between new
+-- a text after a line feed
+pub text_put_after : (text : List ℕ) (old between new : Written) → WritesText (10 ∷ []) old between → WritesText text between new
     → WritesText (10 ∷ text) old new
-text_behind text old between new first next =
+text_put_after text old between new first next =
     (Appends-trans old.contents between.contents new.contents (10 ∷ []) text first.0 next.0, next.1 ∙ first.1)
 
--- a text behind another
+-- a text after another
 pub both_texts : (front text : List ℕ) (old between new : Written) → WritesText front old between → WritesText text between new
     → WritesText (front ++ text) old new
 both_texts front text old between new first next =

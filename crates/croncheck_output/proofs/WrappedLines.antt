@@ -6,7 +6,7 @@ use Rattle.std.proofs.lemmas.List.Splits.{join_with_byte-slice_split}
 use Rattle.std.specs.Prelude.{◌==◌, nat_le}
 use Rattle.std.specs.List.{list_all, join_with_byte, onto_first}
 use Rattle.croncheck_output.specs.Wrapped.{words_of, with_word, fits, lines_from, lines_of, joined, is_word, is_within}
-use Rattle.croncheck_output.specs.Private.Wrapping.{takes, front_of, used_with, pieces}
+use Rattle.croncheck_output.specs.Private.Wrapping.{takes, front_of, length_with_word, pieces}
 
 -- ---- there is a line
 
@@ -144,16 +144,16 @@ lines_within most text = within_of most (words_of text) (all_words text)
 -- ---- a word more
 
 word_put : (most : ℕ) (between old new : List ℕ) (used : Option ℕ) (w : List ℕ) (ws : List (List ℕ)) (front : List ℕ) (n : ℕ) (whole : List ℕ)
-    → new ≡ old ++ (front ++ w) → front ≡ front_of most between used w → n ≡ used_with most used w → old ++ pieces most between used (w ∷ ws) ≡ whole
+    → new ≡ old ++ (front ++ w) → front ≡ front_of most between used w → n ≡ length_with_word most used w → old ++ pieces most between used (w ∷ ws) ≡ whole
     → new ++ pieces most between (Some n) ws ≡ whole
 word_put most between old new used w ws front n whole is front_is n_is h =
-    let P = pieces most between (Some (used_with most used w)) ws in
+    let P = pieces most between (Some (length_with_word most used w)) ws in
     rw (is, front_is, n_is)
     (append_assoc old (front_of most between used w ++ w) P ∙ ap (λ r. old ++ r) (append_assoc (front_of most between used w) w P) ∙ h)
 
--- the next word was put behind the others
+-- the next word was put after the others
 pub next_word_put : (most : ℕ) (between old new : List ℕ) (used : Option ℕ) (words : List (List ℕ)) (k : ℕ) (w front : List ℕ) (n : ℕ) (whole : List ℕ)
-    → k < length words → w ≡ get_or words k w → new ≡ old ++ (front ++ w) → front ≡ front_of most between used w → n ≡ used_with most used w
+    → k < length words → w ≡ get_or words k w → new ≡ old ++ (front ++ w) → front ≡ front_of most between used w → n ≡ length_with_word most used w
     → old ++ pieces most between used (drop k words) ≡ whole → new ++ pieces most between (Some n) (drop (k + 1) words) ≡ whole
 next_word_put most between old new used words k w front n whole within at is front_is n_is h =
     word_put most between old new used w (drop (k + 1) words) front n whole is front_is n_is

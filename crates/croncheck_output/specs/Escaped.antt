@@ -34,18 +34,18 @@ abbrev pub is_printed : ℕ → Bool
 is_printed b = nat_le 32 b && nat_le b 126
 
 -- bytes of a line as they are shown, with a text in place of each byte of one value: some that stand before one or the end, and those that follow
-abbrev pub replaced_behind : ℕ → List ℕ → List ℕ → List ℕ → List ℕ
-replaced_behind sign text before [] = bytes_shown before
-replaced_behind sign text before (b ∷ bs) =
-    if b == sign then bytes_shown before ++ (text ++ replaced_behind sign text [] bs) else replaced_behind sign text (before ++ b ∷ []) bs
+abbrev pub replaced_after : ℕ → List ℕ → List ℕ → List ℕ → List ℕ
+replaced_after sign text before [] = bytes_shown before
+replaced_after sign text before (b ∷ bs) =
+    if b == sign then bytes_shown before ++ (text ++ replaced_after sign text [] bs) else replaced_after sign text (before ++ b ∷ []) bs
 
 abbrev pub replaced : ℕ → List ℕ → List ℕ → List ℕ
-replaced sign text bytes = replaced_behind sign text [] bytes
+replaced sign text bytes = replaced_after sign text [] bytes
 
 -- a tab as a space
 abbrev pub spaced : List ℕ → List ℕ
 spaced bytes = replaced 9 (32 ∷ []) bytes
 
 -- a backslash as two, so that none of the bytes is taken for a sign of how others are shown
-abbrev pub exact : List ℕ → List ℕ
-exact bytes = replaced 92 (92 ∷ 92 ∷ []) bytes
+abbrev pub exact_text : List ℕ → List ℕ
+exact_text bytes = replaced 92 (92 ∷ 92 ∷ []) bytes

@@ -1,4 +1,4 @@
--- Texts that are broken into lines. Source: this crate's documentation of `wrapped`.
+-- Texts that are broken into lines. Source: this crate's documentation of `wrapped_text`.
 use Rattle.std.specs.Prelude.{ℕ, ◌==◌, ◌||◌, nat_le, Bool, not, List, [], ◌∷◌, ◌++◌, length, if◌then◌else◌}
 use Rattle.std.specs.List.{list_any, slice_split}
 
@@ -14,7 +14,7 @@ with_word line word = line ++ (32 ∷ word)
 abbrev pub fits : ℕ → List ℕ → Bool
 fits most line = nat_le (length line) most
 
--- the lines of words behind those of a line that is begun: it takes the next word where it has at most so many bytes with it, and else a line
+-- the lines of words after those of a line that is begun: it takes the next word where it has at most so many bytes with it, and else a line
 -- begins with that word
 abbrev pub lines_from : ℕ → List ℕ → List (List ℕ) → List (List ℕ)
 lines_from most line [] = line ∷ []
@@ -32,8 +32,8 @@ joined between (line ∷ []) = line
 joined between (line ∷ next ∷ lines) = line ++ (between ++ joined between (next ∷ lines))
 
 -- a text in lines of at most so many bytes
-abbrev pub wrapped : ℕ → List ℕ → List ℕ → List ℕ
-wrapped most between text = joined between (lines_of most (words_of text))
+abbrev pub wrapped_text : ℕ → List ℕ → List ℕ → List ℕ
+wrapped_text most between text = joined between (lines_of most (words_of text))
 
 -- a text is one word
 abbrev pub is_word : List ℕ → Bool

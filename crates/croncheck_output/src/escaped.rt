@@ -5,7 +5,7 @@ ghost use Rattle.std.specs.Str.{encode_utf8_all};
 ghost use Rattle.bstr.specs.Escape.{escaped};
 ghost use Rattle.bstr.specs.Utf8.{decoded};
 ghost use Rattle.crontab.specs.Setting.{has};
-ghost use Rattle.croncheck_output.specs.Escaped.{front_shown, front_size, bytes_shown, is_harmless, is_printed, replaced, exact};
+ghost use Rattle.croncheck_output.specs.Escaped.{front_shown, front_size, bytes_shown, is_harmless, is_printed, replaced, exact_text};
 
 use bstr::{ByteSlice, decode_utf8};
 use croner_base::excerpt::ShownCharacter;
@@ -15,7 +15,7 @@ use std::alloc::{AllocError, Global};
 
 /// Some bytes as they are shown. Text in UTF-8 stands as it is, but for a character that a terminal acts on or that nobody sees: it
 /// stands as `\t`, `\n`, `\r` or by its number, as `\u{1b}`. A byte that is no text stands as `\xFF`. The only error is want of memory.
-pub fn shown(alloc: Global, bytes: &[u8]) -> Result<String, AllocError>
+pub fn shown_text(alloc: Global, bytes: &[u8]) -> Result<String, AllocError>
     ensures shown { IfOk result (λ text. string_bytes text ≡ bytes_shown bytes.now) }
     ensures harmless { IfOk result (λ text. IsTrue (list_all is_harmless (string_bytes text))) }
     ensures same { IsTrue (list_all is_printed bytes.now) → IfOk result (λ text. string_bytes text ≡ bytes.now) }
@@ -25,7 +25,7 @@ pub fn shown(alloc: Global, bytes: &[u8]) -> Result<String, AllocError>
     Ok(text)
 }
 
-/// Puts some bytes behind a text, as they are shown. The only error is want of memory; what then stands behind the text is not said.
+/// Puts some bytes after a text, as they are shown. The only error is want of memory; what then stands after the text is not said.
 pub fn push_shown(text: &mut String, bytes: &[u8]) -> Result<(), AllocError>
     ensures { OnOk result (string_bytes text.new ≡ string_bytes text.old ++ bytes_shown bytes.now) }
 {
@@ -36,7 +36,7 @@ pub fn push_shown(text: &mut String, bytes: &[u8]) -> Result<(), AllocError>
     Ok(())
 }
 
-// Puts the first character of some bytes behind a text, or their first byte where they begin with none. What stands behind it is left.
+// Puts the first character of some bytes after a text, or their first byte where they begin with none. What stands after it is left.
 fn push_front<'b>(text: &mut String, bytes: &'b [u8]) -> Result<&'b [u8], AllocError>
     requires { 0 < length bytes.now }
     ensures shown { OnOk result (string_bytes text.new ≡ string_bytes text.old ++ front_shown (decoded bytes.now).char bytes.now) }
@@ -60,16 +60,16 @@ fn push_front<'b>(text: &mut String, bytes: &'b [u8]) -> Result<&'b [u8], AllocE
 
 /// Some bytes as they are shown, but for a backslash, which stands as two: so it is told apart from those of a character that stands
 /// by its name or number. The only error is want of memory.
-pub fn exact(alloc: Global, bytes: &[u8]) -> Result<String, AllocError>
-    ensures { IfOk result (λ text. string_bytes text ≡ exact bytes.now) }
+pub fn exact_text(alloc: Global, bytes: &[u8]) -> Result<String, AllocError>
+    ensures { IfOk result (λ text. string_bytes text ≡ exact_text bytes.now) }
 {
     let mut text = String::new(alloc);
     push_replaced(&mut text, bytes, b'\\', "\\\\")?;
     Ok(text)
 }
 
-/// Puts some bytes behind a text, as they are shown, with another text in place of each byte of one value. The only error is want of
-/// memory; what then stands behind the text is not said.
+/// Puts some bytes after a text, as they are shown, with another text in place of each byte of one value. The only error is want of
+/// memory; what then stands after the text is not said.
 pub(crate) fn push_replaced(
     text: &mut String,
     bytes: &[u8],
@@ -85,7 +85,7 @@ pub(crate) fn push_replaced(
     push_shown(text, rest)
 }
 
-// Puts what stands before the first such byte behind a text, as it is shown, and the other text. What stands behind it is left.
+// Puts after a text what stands before the first such byte, as it is shown, and the other text. What stands after it is left.
 #[tactic(auto, using(crate::proofs::SpacedBytes::one_piece))]
 fn push_piece<'b>(
     text: &mut String,
@@ -97,8 +97,8 @@ fn push_piece<'b>(
     ensures shown { IfOk result (λ rest. string_bytes text.new ++ replaced sign replacement.now rest.now ≡ string_bytes text.old ++ replaced sign replacement.now bytes.now) }
     ensures shorter { IfOk result (λ rest. length rest.now < length bytes.now) }
 {
-    let (piece, behind) = cut(bytes, Kind::But(sign));
+    let (piece, after) = cut(bytes, Kind::But(sign));
     push_shown(text, piece)?;
     text.push_str(replacement)?;
-    Ok(rest_of(behind))
+    Ok(rest_of(after))
 }

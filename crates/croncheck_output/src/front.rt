@@ -12,14 +12,14 @@ pub const COMMAND_BYTES: usize = 40;
 /// What stands where something is left out.
 const LEFT_OUT: &str = "..";
 
-/// Puts bytes of a line behind a text, as they are shown, a tab as a space.
+/// Puts bytes of a line after a text, as they are shown, a tab as a space.
 pub fn push_spaced(text: &mut String, bytes: &[u8]) -> Result<(), AllocError>
     ensures { OnOk result (string_bytes text.new ≡ string_bytes text.old ++ spaced bytes.now) }
 {
     push_replaced(text, bytes, b'\t', " ")
 }
 
-/// Puts the first bytes of a text behind another, so many at most, and a mark where there are more.
+/// Puts the first bytes of a text after another, so many at most, and a mark where there are more.
 pub fn push_front(text: &mut String, bytes: &[u8], most: usize) -> Result<(), AllocError>
     ensures { OnOk result (string_bytes text.new ≡ string_bytes text.old ++ front_text most bytes.now) }
 {
@@ -28,7 +28,7 @@ pub fn push_front(text: &mut String, bytes: &[u8], most: usize) -> Result<(), Al
     push_left_out(text, !rest.is_empty())
 }
 
-/// Puts a mark behind a text, where something is left out of it.
+/// Puts a mark after a text, where something is left out of it.
 pub fn push_left_out(text: &mut String, is_left_out: bool) -> Result<(), AllocError>
     ensures { OnOk result (string_bytes text.new ≡ string_bytes text.old ++ left_out_text is_left_out) }
 {

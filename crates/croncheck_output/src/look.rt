@@ -1,9 +1,9 @@
 //! How texts are shown: broken into lines, and in colours.
 ghost use Rattle.std.specs.Prelude.{◌≡◌, IfOk, string_bytes, true};
-ghost use Rattle.croncheck_output.specs.Look.{broken, color_of, painted};
+ghost use Rattle.croncheck_output.specs.Look.{broken_text, color_of, painted_text};
 
 use crate::severity::Severity;
-use crate::wrapped::wrapped;
+use crate::wrapped::wrapped_text;
 use std::alloc::{AllocError, Global};
 
 /// How many bytes less than the width a line has that is broken: those of the blanks and the word in front of it.
@@ -28,11 +28,11 @@ impl Look {
     /// A text, broken into lines where lines have a width.
     ///
     /// The only error is want of memory.
-    pub fn broken(&self, alloc: Global, text: &str) -> Result<String, AllocError>
-        ensures { IfOk result (λ lines. string_bytes lines ≡ broken self.now.width text.now) }
+    pub fn broken_text(&self, alloc: Global, text: &str) -> Result<String, AllocError>
+        ensures { IfOk result (λ lines. string_bytes lines ≡ broken_text self.now.width text.now) }
     {
         match self.width {
-            Some(width) => wrapped(alloc, text, width.saturating_sub(BYTES_IN_FRONT), INDENT),
+            Some(width) => wrapped_text(alloc, text, width.saturating_sub(BYTES_IN_FRONT), INDENT),
             None => String::from_str(alloc, text),
         }
     }
@@ -40,23 +40,23 @@ impl Look {
     /// A text in the colour of a severity, where there are colours.
     ///
     /// The only error is want of memory.
-    pub fn painted(
+    pub fn painted_text(
         &self,
         alloc: Global,
         severity: Severity,
         text: &str,
     ) -> Result<String, AllocError>
-        ensures { IfOk result (λ shown. string_bytes shown ≡ painted self.now.has_color severity text.now) }
+        ensures { IfOk result (λ shown. string_bytes shown ≡ painted_text self.now.has_color severity text.now) }
     {
         if self.has_color {
-            return in_color(alloc, severity, text);
+            return colored_text(alloc, severity, text);
         }
         String::from_str(alloc, text)
     }
 }
 
-fn in_color(alloc: Global, severity: Severity, text: &str) -> Result<String, AllocError>
-    ensures { IfOk result (λ shown. string_bytes shown ≡ painted true severity text.now) }
+fn colored_text(alloc: Global, severity: Severity, text: &str) -> Result<String, AllocError>
+    ensures { IfOk result (λ shown. string_bytes shown ≡ painted_text true severity text.now) }
 {
     let color = color_of(severity);
     format!(in alloc; "{color}{text}{NO_COLOR}")

@@ -1,4 +1,4 @@
-//! Texts that are written one behind the other.
+//! Texts that are written one after the other.
 ghost use Rattle.std.specs.Prelude.{◌≡◌, ◌∷◌, ◌++◌, OnOk, is_err, true, false, if◌then◌else◌};
 ghost use Rattle.croncheck_output.specs.Output.{WritesText, WritesApart, WritesItem, EndsItems, IsFlushed, written_of};
 
@@ -83,7 +83,7 @@ impl<W: Write> Output<W> {
     }
 
     // Writes a text with an empty line in front.
-    #[tactic(auto, using(crate::proofs::Outputs::text_behind))]
+    #[tactic(auto, using(crate::proofs::Outputs::text_put_after))]
     fn write_next(&mut self, text: &str) -> io::Result<()>
         ensures written { OnOk result (WritesText (10 ∷ text.now) (written_of W.contents self.old) (written_of W.contents self.new)) }
         ensures refused { self.new.is_refused ≡ (if is_err result then true else self.old.is_refused) }

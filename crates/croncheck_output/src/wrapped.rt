@@ -1,8 +1,8 @@
 //! Texts that are broken into lines.
 ghost use Rattle.std.specs.Prelude.{◌≡◌, ◌++◌, OnOk, IfOk, IsTrue, string_bytes};
 ghost use Rattle.std.specs.List.{list_all, join_with_byte};
-ghost use Rattle.croncheck_output.specs.Wrapped.{words_of, lines_of, wrapped, is_within};
-ghost use Rattle.croncheck_output.specs.Private.Wrapping.{takes, front_of, used_with};
+ghost use Rattle.croncheck_output.specs.Wrapped.{words_of, lines_of, wrapped_text, is_within};
+ghost use Rattle.croncheck_output.specs.Private.Wrapping.{takes, front_of, length_with_word};
 
 use std::alloc::{AllocError, Global};
 
@@ -11,8 +11,13 @@ use std::alloc::{AllocError, Global};
 /// The lines with spaces between them are the text. No line has more bytes than that, and so none more columns, unless it is one
 /// word. The only error is want of memory.
 #[tactic(auto, using(crate::proofs::WrappedLines::lines_in_order, crate::proofs::WrappedLines::lines_within))]
-pub fn wrapped(alloc: Global, text: &str, most: usize, between: &str) -> Result<String, AllocError>
-    ensures value { IfOk result (λ lines. string_bytes lines ≡ wrapped most between.now text.now) }
+pub fn wrapped_text(
+    alloc: Global,
+    text: &str,
+    most: usize,
+    between: &str,
+) -> Result<String, AllocError>
+    ensures value { IfOk result (λ lines. string_bytes lines ≡ wrapped_text most between.now text.now) }
     ensures order { join_with_byte 32 (lines_of most (words_of text.now)) ≡ text.now }
     ensures within { IsTrue (list_all (is_within most) (lines_of most (words_of text.now))) }
 {
@@ -27,12 +32,12 @@ fn push_wrapped(
     most: usize,
     between: &str,
 ) -> Result<(), AllocError>
-    ensures { OnOk result (string_bytes lines.new ≡ string_bytes lines.old ++ wrapped most between.now text.now) }
+    ensures { OnOk result (string_bytes lines.new ≡ string_bytes lines.old ++ wrapped_text most between.now text.now) }
 {
     let mut used = None;
     for word in text.split(' ') {
         push_word(lines, front_of(most, between, used, word), word)?;
-        used = Some(used_with(most, used, word));
+        used = Some(length_with_word(most, used, word));
     }
     Ok(())
 }
@@ -44,7 +49,7 @@ fn push_word(lines: &mut String, front: &str, word: &str) -> Result<(), AllocErr
     lines.push_str(word)
 }
 
-// What stands in front of a word behind a line of so many bytes, if one is begun.
+// What stands in front of a word after a line of so many bytes, if one is begun.
 fn front_of<'b>(most: usize, between: &'b str, used: Option<usize>, word: &str) -> &'b str
     ensures { result.now ≡ front_of most between.now used word.now }
 {
@@ -56,8 +61,8 @@ fn front_of<'b>(most: usize, between: &'b str, used: Option<usize>, word: &str) 
 }
 
 // How many bytes the line has with the word.
-fn used_with(most: usize, used: Option<usize>, word: &str) -> usize
-    ensures { result ≡ used_with most used word.now }
+fn length_with_word(most: usize, used: Option<usize>, word: &str) -> usize
+    ensures { result ≡ length_with_word most used word.now }
 {
     match used {
         Some(used) if takes(most, used, word) => used + 1 + word.len(),

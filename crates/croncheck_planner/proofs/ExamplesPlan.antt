@@ -6,8 +6,8 @@ use Rattle.crontab.specs.Line.{Line, never, blank, comment, job, pattern}
 use Rattle.cronplan.specs.declared.start.JobStart.{JobStart}
 use Rattle.croncheck_planner.specs.declared.planner.PlanAsked.{PlanAsked}
 use Rattle.croncheck_runs.specs.declared.runs.Listing.TheVariants as listings
-use Rattle.croncheck_planner.specs.Plan.{first_behind, end_behind, whole_end, end_up_to, starts_within}
-use Rattle.croncheck_planner.specs.PlanList.{over_text, more_text, whose, line_text}
+use Rattle.croncheck_planner.specs.Plan.{first_after, end_after, whole_end, end_up_to, starts_within}
+use Rattle.croncheck_planner.specs.PlanList.{over_text, more_text, whose_by_kinds, line_text}
 use Rattle.croncheck_planner.specs.Planner.{label_text, above_at}
 use Rattle.croncheck_output.specs.Escaped.{shown_from}
 use Rattle.croncheck_planner.specs.Titles.{heading, title_of}
@@ -97,16 +97,16 @@ started_twice : line_text (codes "  a:1  b" ∷ codes "  a:2  c" ∷ []) (start_
 unfolding digits
 started_twice = refl
 
-of_crontabs : whose true false ≡ codes "these are cron's starts\n"
+of_crontabs : whose_by_kinds true false ≡ codes "these are cron's starts\n"
 of_crontabs = refl
 
-of_patterns : whose false true ≡ codes "these are croner's runs\n"
+of_patterns : whose_by_kinds false true ≡ codes "these are croner's runs\n"
 of_patterns = refl
 
 -- ---- its span
 
 -- the start isn't in it, and the second up to which starts are asked is
-from_the_next_second : first_behind (pos 5) ≡ pos 6
+from_the_next_second : first_after (pos 5) ≡ pos 6
 from_the_next_second = refl
 
 up_to_a_second : end_up_to (pos 9) (pos 100) ≡ pos 10
@@ -116,11 +116,11 @@ up_to_the_window : end_up_to (pos 100) (pos 100) ≡ pos 100
 up_to_the_window = refl
 
 -- a second before the start
-up_to_a_past_second : end_behind (pos 5) (pos 3) ≡ pos 6
+up_to_a_past_second : end_after (pos 5) (pos 3) ≡ pos 6
 up_to_a_past_second = refl
 
-behind_its_last_second : whole_end (Some (pos 9)) ≡ pos 10
-behind_its_last_second = refl
+after_its_last_second : whole_end (Some (pos 9)) ≡ pos 10
+after_its_last_second = refl
 
 -- ---- its end
 

@@ -3,11 +3,11 @@ use Rattle.std.proofs.Common.{◌≡◌, ◌∙◌, ◌<◌, ◌+◌, ℕ, suc, 
 use Rattle.std.specs.Prelude.{◌==◌, ◌&&◌, if◌then◌else◌}
 use Rattle.std.proofs.lemmas.List.{at_drop_more}
 use Rattle.cronplan.specs.declared.start.JobStart.{JobStart}
-use Rattle.croncheck_planner.specs.Plan.{is_new, left_behind, starts_within}
+use Rattle.croncheck_planner.specs.Plan.{is_new, left_after, starts_within}
 
 -- how many of those from the one at a place on do, where this is the second of the start before it
 abbrev pub step : ℕ → Option ℤ → JobStart → List JobStart → ℕ
-step left last s rest = if is_new last s && left == 0 then 0 else suc (starts_within (left_behind left (is_new last s)) (Some s.second) rest)
+step left last s rest = if is_new last s && left == 0 then 0 else suc (starts_within (left_after left (is_new last s)) (Some s.second) rest)
 
 pub within_step : (left : ℕ) (last : Option ℤ) (starts : List JobStart) (k : ℕ) (s d : JobStart) → k < length starts → s ≡ get_or starts k d
     → starts_within left last (drop k starts) ≡ step left last s (drop (k + 1) starts)

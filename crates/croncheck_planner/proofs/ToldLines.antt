@@ -30,7 +30,7 @@ plans_same s text entry found asked asked' above above' old old' new new' a b o 
     (subst (λ (x : Seen). PlansOutcome s asked' above' text entry found x new) o
     (subst (λ (x : Seen). PlansOutcome s asked' above' text entry found old' x) n h)))
 
--- what holds of the planner as a file begins, of it behind the line, and of it with the line's title
+-- what holds of the planner as a file begins, of it after the line, and of it with the line's title
 pub record Steps (old : State Planner) (y : LineRead) (here : Stand) (title : Option (List ℕ)) (begun taken : Planner) (new : State Planner) : Type 0 where
   pub begun_above : begun.above.items ≡ above_at old.stand.lines old.form.above.items
   pub begun_schedules : begun.schedules ≡ old.form.schedules

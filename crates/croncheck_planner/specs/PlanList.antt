@@ -37,14 +37,14 @@ is_pattern (schedules.Crontab job) = false
 is_pattern (schedules.Pattern cron) = true
 
 -- those of a crontab's jobs are what cron starts, and those of patterns what croner runs
-abbrev pub whose : Bool → Bool → List ℕ
-whose has_crontab has_pattern =
+abbrev pub whose_by_kinds : Bool → Bool → List ℕ
+whose_by_kinds has_crontab has_pattern =
     if has_crontab && has_pattern then codes "these are cron's starts of the crontabs, and croner's runs of the patterns\n"
     else if has_crontab then codes "these are cron's starts\n" else codes "these are croner's runs\n"
 
 -- the same of jobs
 abbrev pub whose_text : List Schedule → List ℕ
-whose_text jobs = whose (list_any is_crontab jobs) (list_any is_pattern jobs)
+whose_text jobs = whose_by_kinds (list_any is_crontab jobs) (list_any is_pattern jobs)
 
 -- what stands in front of the starts of a list: whose they are, where there are any
 abbrev pub head_text : List ℕ → Bool → List ℕ
@@ -104,7 +104,7 @@ pub record At : Type 0 where
   pub last : Option ℤ
   pub written : Written
 
--- the next one was, behind the start before
+-- the next one was, after the start before
 abbrev pub WritesNext : Settings → Shared → List (List ℕ) → At → JobStart → At → Type 0
 WritesNext s shared all old start new =
     WritesLine s shared all (is_new old.last start) start old.written new.written × (new.last ≡ Some start.second)
@@ -134,7 +134,7 @@ abbrev pub IsWholeEnd : Shared → Option ℤ → Bool → List ℕ → Type 0
 IsWholeEnd shared None is_empty text = text ≡ over_text is_empty
 IsWholeEnd shared (Some last) is_empty text = (said : List ℕ) × IsWindowEnd shared.stop said × (text ≡ said ++ 10 ∷ [])
 
--- what stands behind the starts of a list, or behind none
+-- what stands after the starts of a list, or after none
 abbrev pub IsListEnd : Settings → Shared → Ending → Bool → List ℕ → Type 0
 IsListEnd s shared endings.More is_empty text = text ≡ more_text s.listing is_empty
 IsListEnd s shared endings.Cut is_empty text = text ≡ cut_text

@@ -74,19 +74,19 @@ command_of (job task) = task.command
 command_of (pattern text) = text
 command_of (refused fault) = []
 
--- the front of a command, behind two spaces, if there is one
+-- the front of a command, after two spaces, if there is one
 abbrev pub command_front : List ℕ → List ℕ
 command_front [] = []
 command_front (b ∷ bs) = codes "  " ++ front_text command_bytes (b ∷ bs)
 
 -- the same, but where the command is the title: of a pattern it mostly is
-abbrev pub command_behind : List ℕ → List ℕ → List ℕ
-command_behind title command = if bytes_eq command title then [] else command_front command
+abbrev pub command_after : List ℕ → List ℕ → List ℕ
+command_after title command = if bytes_eq command title then [] else command_front command
 
 -- what a list shows of a job: its file, its number there, the front of its title, and of its command where that is asked for
 abbrev pub label_text : PlanAsked → List ℕ → ℕ → List ℕ → Line → List ℕ
 label_text asked file line title is =
-    codes "  " ++ (place_text file line ++ (front_text command_bytes title ++ (if asked.has_commands then command_behind title (command_of is) else [])))
+    codes "  " ++ (place_text file line ++ (front_text command_bytes title ++ (if asked.has_commands then command_after title (command_of is) else [])))
 
 -- what is shown of a job
 pub record JobShown : Type 0 where
@@ -250,6 +250,6 @@ abbrev pub WritesUnlessFile : Option FileAsked → Settings → Shared → Plann
 WritesUnlessFile (Some file) s shared p old new = new ≡ old
 WritesUnlessFile None s shared p old new = WritesPlanAs (asks_none p.asked.questions) s shared p old new
 
--- what is written behind all files
+-- what is written after all files
 abbrev pub WritesPlan : Settings → Shared → Planner → Written → Written → Type 0
 WritesPlan s shared p old new = WritesUnlessFile p.asked.file s shared p old new

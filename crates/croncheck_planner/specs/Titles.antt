@@ -2,7 +2,7 @@
 use Rattle.std.specs.Prelude.{ℕ, ◌==◌, ◌-◌, Bool, not, List, [], ◌∷◌, length, drop, Option, Some, None, if◌then◌else◌}
 use Rattle.std.specs.List.{list_any, prefix_len, suffix_len}
 use Rattle.crontab.specs.declared.bytes.Kind.TheVariants as kinds
-use Rattle.crontab.specs.Bytes.{front, behind, trimmed}
+use Rattle.crontab.specs.Bytes.{front, text_after, trim_end}
 use Rattle.crontab.specs.Line.{Line, Task, blank, comment, setting, job, pattern, refused}
 use Rattle.croncheck_report.specs.Allowed.{list_in}
 
@@ -16,7 +16,7 @@ without_hashes text = drop (prefix_len is_hash text) text
 
 -- the text of a comment: without the hashes in front, and the blanks around it
 abbrev pub comment_text : List ℕ → List ℕ
-comment_text line = trimmed (behind kinds.Blank (without_hashes (behind kinds.Blank line)))
+comment_text line = trim_end (text_after kinds.Blank (without_hashes (text_after kinds.Blank line)))
 
 -- the title that a comment gives to the next line: one that allows something leaves what stands above it
 abbrev pub heading_unless : Option (List ℕ) → List ℕ → Option (List ℕ)
@@ -45,7 +45,7 @@ abbrev pub or_text : List ℕ → List ℕ → List ℕ
 or_text [] other = other
 or_text (b ∷ bs) other = b ∷ bs
 
--- what stands behind the last slash of a path; the whole where that is nothing
+-- what stands after the last slash of a path; the whole where that is nothing
 abbrev pub last_part : List ℕ → List ℕ
 last_part path = or_text (drop (length path - suffix_len is_no_slash path) path) path
 
@@ -58,7 +58,7 @@ title_of_word word = if list_any is_equals word then [] else last_part word
 
 -- the same of a command's first word
 abbrev pub title_of_command : List ℕ → List ℕ
-title_of_command command = title_of_word (front kinds.Word (behind kinds.Blank command))
+title_of_command command = title_of_word (front kinds.Word (text_after kinds.Blank command))
 
 -- the same, or a job's times where that is nothing
 abbrev pub title_of_job : Task → List ℕ

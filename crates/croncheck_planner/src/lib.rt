@@ -1,4 +1,4 @@
-//! The form that makes a plan of all jobs: what starts behind a start, as a list, as answers, as a calendar or a page.
+//! The form that makes a plan of all jobs: what starts after a start, as a list, as answers, as a calendar or a page.
 #![tactic(auto)]
 
 pub mod plan;

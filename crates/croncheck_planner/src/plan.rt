@@ -1,8 +1,8 @@
-//! The plan of the jobs of all files: what starts behind the start of a call.
+//! The plan of the jobs of all files: what starts after the start of a call.
 ghost use Rattle.std.specs.Prelude.{◌≡◌, ◌≤◌, length, None, true, false, int_lt, IfOk};
 ghost use Rattle.croner_base.specs.Table.{is_table_second};
 ghost use Rattle.croner_base.specs.TableZone.{table_zone};
-ghost use Rattle.croncheck_planner.specs.Plan.{first_behind, end_behind, IsSpanBehind, IsFound, IsFirst, IsListed, whole_end, end_up_to, is_cut, is_new, left_behind, starts_within, is_more, is_enough, starts_listed, ending_of, answered_until};
+ghost use Rattle.croncheck_planner.specs.Plan.{first_after, end_after, IsSpanAfter, IsFound, IsFirst, IsListed, whole_end, end_up_to, is_cut, is_new, left_after, starts_within, is_more, is_enough, starts_listed, ending_of, answered_until};
 
 pub(crate) mod answers;
 pub(crate) mod list;
@@ -19,11 +19,11 @@ use std::alloc::Global;
 /// The last second that a span may end with, which isn't in it: 9999-12-31T23:59:59 UTC.
 const LAST_SECOND: i64 = 253_402_300_799;
 
-/// How long the spans are in which so many moments are looked for, one behind the other, in seconds: an hour, a day, a week, 31 and 366 days,
+/// How long the spans are in which so many moments are looked for, one after the other, in seconds: an hour, a day, a week, 31 and 366 days,
 /// and eight of these years.
 const LENGTHS: [i64; 6] = [3_600, 86_400, 604_800, 2_678_400, 31_622_400, 252_979_200];
 
-/// The starts of jobs behind a start.
+/// The starts of jobs after a start.
 #[derive(Drop)]
 pub struct Found {
     pub plan: Plan,
@@ -41,11 +41,11 @@ impl Found {
         self.plan.span.end < self.span.end
     }
 
-    // It has starts behind its first moments, which are so many.
+    // It has starts after its first moments, which are so many.
     fn is_more(&self, count: u32) -> bool
         ensures { result ≡ is_more count self.now }
     {
-        within(self.plan.starts.as_slice(), count) < self.plan.starts.len()
+        count_within(self.plan.starts.as_slice(), count) < self.plan.starts.len()
     }
 
     // More of its starts than those of so many moments are known, or as many as a plan keeps.
@@ -56,12 +56,12 @@ impl Found {
     }
 
     /// Its starts that a list has.
-    pub(crate) fn listed(&self, listing: Listing) -> &[JobStart]
+    pub(crate) fn listed_starts(&self, listing: Listing) -> &[JobStart]
         ensures { result.now ≡ starts_listed listing self.now }
     {
         let starts = self.plan.starts.as_slice();
         match listing {
-            Listing::Count(count) => starts.split_at(within(starts, count)).0,
+            Listing::Count(count) => starts.split_at(count_within(starts, count)).0,
             Listing::Until(_) => starts,
         }
     }
@@ -96,7 +96,7 @@ impl Found {
 /// How a list of starts ends.
 #[derive(Clone, Copy, Drop)]
 pub enum Ending {
-    /// More may come behind what was asked for.
+    /// More may come after what was asked for.
     More,
     /// As many starts as a plan keeps were found.
     Cut,
@@ -104,7 +104,7 @@ pub enum Ending {
     Whole,
 }
 
-/// What starts of jobs behind a start, which isn't in it, and before an end, without those that start more often than so many times on some
+/// What starts of jobs after a start, which isn't in it, and before an end, without those that start more often than so many times on some
 /// day of the clock. Where no number is given, no job is left out.
 ///
 /// The only error is `OutOfMemory`, as that of `cronplan::plan_of`.
@@ -117,7 +117,7 @@ pub fn found_before(
 ) -> Result<Found, CronError>
     ensures { IfOk result (IsFound (table_zone start.entry.table.now) start.entry.second end most_a_day jobs.now) }
 {
-    let span = span_behind(start.second(), end);
+    let span = span_after(start.second(), end);
     let (plan, frequent) = plan_of(alloc, jobs, start.table(), span, most_a_day)?;
     Ok(Found {
         plan,
@@ -126,7 +126,7 @@ pub fn found_before(
     })
 }
 
-/// What starts of jobs behind a start, on a clock whose window ends with a second or not before the years that are searched, up to the second
+/// What starts of jobs after a start, on a clock whose window ends with a second or not before the years that are searched, up to the second
 /// up to which starts are listed, or else in seven days; without those that start more often than so many times a day.
 ///
 /// The error is as that of `found_before`.
@@ -144,7 +144,7 @@ pub fn answered_plan(
     found_before(alloc, jobs, start, end, most_a_day)
 }
 
-// The end of what is looked at behind a start where a plan is asked something.
+// The end of what is looked at after a start where a plan is asked something.
 fn answered_until(start: i64, last: Option<i64>, listing: Listing) -> i64
     requires { is_table_second start ≡ true }
     ensures { result ≡ answered_until start last listing }
@@ -153,7 +153,7 @@ fn answered_until(start: i64, last: Option<i64>, listing: Listing) -> i64
     end_up_to(until, whole_end(last))
 }
 
-/// What starts of jobs behind a start, on a clock whose window ends with a second or not before the years that are searched: all up to a
+/// What starts of jobs after a start, on a clock whose window ends with a second or not before the years that are searched: all up to a
 /// second, or more than so many moments if there are more. No job is left out.
 ///
 /// The error is as that of `found_before`.
@@ -175,7 +175,7 @@ pub fn listed_plan(
     }
 }
 
-// What starts of jobs behind a start before an end, up to more than so many moments.
+// What starts of jobs after a start before an end, up to more than so many moments.
 fn first_plan(
     alloc: Global,
     jobs: &[Schedule],
@@ -203,7 +203,7 @@ fn end_from(start: i64, length: i64, whole: i64) -> i64
     if whole < end { whole } else { end }
 }
 
-// The end of the window of a clock: behind its last second, where it ends before year 5000 does.
+// The end of the window of a clock: after its last second, where it ends before year 5000 does.
 pub(crate) fn whole_end(last: Option<i64>) -> i64
     ensures { result ≡ whole_end last }
 {
@@ -220,20 +220,20 @@ fn end_up_to(until: i64, whole: i64) -> i64
     if until < whole { until + 1 } else { whole }
 }
 
-// The span behind a start up to an end.
-fn span_behind(start: i64, end: i64) -> Span
+// The span after a start up to an end.
+fn span_after(start: i64, end: i64) -> Span
     requires { is_table_second start ≡ true }
-    ensures { IsSpanBehind start end result }
+    ensures { IsSpanAfter start end result }
 {
-    match Span::new(first_behind(start), end_behind(start, end)) {
+    match Span::new(first_after(start), end_after(start, end)) {
         Some(span) => span,
         None => unreachable!(),
     }
 }
 
-// The second behind a start.
-fn first_behind(start: i64) -> i64
-    ensures { result ≡ first_behind start }
+// The second after a start.
+fn first_after(start: i64) -> i64
+    ensures { result ≡ first_after start }
 {
     if start < LAST_SECOND {
         start + 1
@@ -242,11 +242,11 @@ fn first_behind(start: i64) -> i64
     }
 }
 
-// The end of the span behind a start that is to end there.
-fn end_behind(start: i64, end: i64) -> i64
-    ensures { result ≡ end_behind start end }
+// The end of the span after a start that is to end there.
+fn end_after(start: i64, end: i64) -> i64
+    ensures { result ≡ end_after start end }
 {
-    let first = first_behind(start);
+    let first = first_after(start);
     if end < first {
         first
     } else if LAST_SECOND < end {
@@ -258,7 +258,7 @@ fn end_behind(start: i64, end: i64) -> i64
 
 // How many of some starts lie in the first moments, which are so many.
 #[tactic(auto, using(crate::proofs::MomentStarts::within_step))]
-fn within(starts: &[JobStart], count: u32) -> usize
+fn count_within(starts: &[JobStart], count: u32) -> usize
     ensures value { result ≡ starts_within count None starts.now }
     ensures bound { result ≤ length starts.now }
 {
@@ -269,15 +269,15 @@ fn within(starts: &[JobStart], count: u32) -> usize
         if begins && left == 0 {
             return k;
         }
-        left = left_behind(left, begins);
+        left = left_after(left, begins);
         last = Some(starts[k].second);
     }
     starts.len()
 }
 
-// How many moments are left behind a start that begins one or doesn't.
-fn left_behind(left: u32, begins: bool) -> u32
-    ensures { result ≡ left_behind left begins }
+// How many moments are left after a start that begins one or doesn't.
+fn left_after(left: u32, begins: bool) -> u32
+    ensures { result ≡ left_after left begins }
 {
     if begins { left.saturating_sub(1) } else { left }
 }

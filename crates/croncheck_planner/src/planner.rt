@@ -1,11 +1,11 @@
-//! The form of a plan: the jobs of all files, and behind them what starts of them.
+//! The form of a plan: the jobs of all files, and after them what starts of them.
 ghost use Rattle.std.specs.Prelude.{◌≡◌, ◌++◌, ℕ, List, [], None, Some, IfOk, IfErr, OnOk, string_bytes, option_map, unwrap_or};
 ghost use Rattle.croner.specs.declared.job.Cron.{Cron as Made};
 ghost use Rattle.croner.specs.Views.{job_of as meaning_of_job};
 ghost use Rattle.crontab.specs.Content.{IsOutcome};
 ghost use Rattle.crontab.specs.Entries.{entry_seen};
 ghost use Rattle.croncheck_output.specs.Output.{Written, written_of};
-ghost use Rattle.croncheck_planner.specs.Planner.{seen, planned_seen, job_shown, schedule_of, label_text, command_behind, user_text, command_of, times_of, above_at, is_refused_by_user, with_job, jobs_seen, Adds, IsFoundBy, Keeps, Passes, PlansOutcome, WritesListed, WritesAnswered, WritesPlan};
+ghost use Rattle.croncheck_planner.specs.Planner.{seen, planned_seen, job_shown, schedule_of, label_text, command_after, user_text, command_of, times_of, above_at, is_refused_by_user, with_job, jobs_seen, Adds, IsFoundBy, Keeps, Passes, PlansOutcome, WritesListed, WritesAnswered, WritesPlan};
 ghost use Rattle.croncheck_output.specs.Escaped.{spaced};
 ghost use Rattle.croncheck_reading.specs.Stand.{stand_of};
 ghost use Rattle.croncheck_report.specs.Told.{IsDescription};
@@ -19,7 +19,7 @@ use crate::plan::list::{whose_text, write_list};
 use crate::plan::title::{heading_of, title_of};
 use crate::plan::{Found, answered_plan, listed_plan};
 pub use calendar::PlanFile;
-use croncheck_output::escaped::shown;
+use croncheck_output::escaped::shown_text;
 use croncheck_output::front::{COMMAND_BYTES, push_front, push_spaced};
 use croncheck_output::output::Output;
 use croncheck_reading::form::Form;
@@ -52,7 +52,7 @@ pub struct PlanAsked {
     pub questions: Questions,
     /// The most starts on a day of a job that the answers are about, if there is such a number.
     pub most_a_day: Option<u64>,
-    /// The file that it is asked for, if any: then nothing is written behind the files.
+    /// The file that it is asked for, if any: then nothing is written after the files.
     pub file: Option<FileAsked>,
 }
 
@@ -270,7 +270,7 @@ impl Planner {
     /// What starts of its jobs in what the forms of a plan are about, without those that start too often.
     ///
     /// The only error is `OutOfMemory`, as that of `answered_plan`.
-    pub(crate) fn found(&self, terms: &Terms<'_, '_>) -> Result<Found, CronError>
+    pub(crate) fn found_starts(&self, terms: &Terms<'_, '_>) -> Result<Found, CronError>
         ensures { IfOk result (IsFoundBy terms.now.settings.now self.now) }
     {
         answered_plan(
@@ -287,7 +287,7 @@ impl Planner {
     fn end_answers<W: Write>(&self, terms: &Terms<'_, '_>, output: &mut Output<W>) -> io::Result<()>
         ensures { OnOk result (WritesAnswered terms.now.settings.now terms.now.shared.now self.now (written_of W.contents output.old) (written_of W.contents output.new)) }
     {
-        let Ok(found) = self.found(terms) else {
+        let Ok(found) = self.found_starts(terms) else {
             return Err(io::Error::from(ErrorKind::OutOfMemory));
         };
         let whose = whose_text(self.schedules.as_slice());
@@ -427,8 +427,8 @@ fn planned_in(
     let label = label_of(alloc, asked, place, title, entry)?;
     let file = String::from_str(alloc, place.file)?;
     let title = spaced_text(alloc, title)?;
-    let user = shown(alloc, user_of(entry))?;
-    let times = shown(alloc, times_of(entry))?;
+    let user = shown_text(alloc, user_of(entry))?;
+    let times = shown_text(alloc, times_of(entry))?;
     let command = copy_of(alloc, command_of(entry))?;
     let line = place.line;
     Ok(Planned {
@@ -462,9 +462,9 @@ fn label_of(
     Ok(label)
 }
 
-// Puts the front of a command behind its title, if there is one, and it isn't the title.
+// Puts the front of a command after its title, if there is one, and it isn't the title.
 fn push_command(text: &mut String, title: &[u8], command: &[u8]) -> Result<(), AllocError>
-    ensures { OnOk result (string_bytes text.new ≡ string_bytes text.old ++ command_behind title.now command.now) }
+    ensures { OnOk result (string_bytes text.new ≡ string_bytes text.old ++ command_after title.now command.now) }
 {
     if command.is_empty() || command == title {
         return Ok(());

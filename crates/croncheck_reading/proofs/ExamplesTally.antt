@@ -21,7 +21,7 @@ tally refused warned = record { lines = 20_000; jobs = 2; refused = refused; war
 abbrev zone_found : Bool → SettingReport
 zone_found is_zone = record { is_zone = is_zone; is_not_expanded = false; is_hiding = false }
 
--- how many lines have a warning with this one behind so many of a file, of which nothing else was seen
+-- how many lines have a warning with this one after so many of a file, of which nothing else was seen
 abbrev warned_with : Dialect → ℕ → Line → Report → ℕ
 warned_with dialect lines line report = (added (is_too_many dialect lines line (unread (codes "tab"))) (tally 0 0) report).warned
 
@@ -74,8 +74,8 @@ line_10004_of_the_system = refl
 a_comment_at_line_10004_of_the_system : warned_with dialects.System 10_003 comment reports.Silent ≡ 0
 a_comment_at_line_10004_of_the_system = refl
 
-a_setting_behind_20000_comments : warned_with dialects.System 20_000 (setting false) (reports.Setting (zone_found false) true) ≡ 1
-a_setting_behind_20000_comments = refl
+a_setting_after_20000_comments : warned_with dialects.System 20_000 (setting false) (reports.Setting (zone_found false) true) ≡ 1
+a_setting_after_20000_comments = refl
 
 a_second_at_line_10005 : is_too_many dialects.System 10_004 (setting false) (with_line 10_004 (setting false) true (unread (codes "tab"))) ≡ false
 a_second_at_line_10005 = refl
@@ -142,8 +142,8 @@ a_setting_at_line_10004 = refl
 a_setting_in_front_of_20000_comments : is_ignored dialects.System 20_001 (with_line 20_001 comment true (with_line 1 (setting false) true (file_of false))) ≡ false
 a_setting_in_front_of_20000_comments = refl
 
-a_comment_behind_a_late_setting : is_ignored dialects.System 10_005 (with_line 10_005 comment true (with_line 10_004 (setting false) true (file_of false))) ≡ true
-a_comment_behind_a_late_setting = refl
+a_comment_after_a_late_setting : is_ignored dialects.System 10_005 (with_line 10_005 comment true (with_line 10_004 (setting false) true (file_of false))) ≡ true
+a_comment_after_a_late_setting = refl
 
 patterns_without_their_line_feed : is_ignored dialects.Patterns 10_001 (file_of true) ≡ false
 patterns_without_their_line_feed = refl

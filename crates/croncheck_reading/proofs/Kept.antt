@@ -18,7 +18,7 @@ use Rattle.croncheck_report.specs.declared.report.Same.{Same}
 use Rattle.croncheck_reading.specs.declared.same.Seen.{Seen}
 use Rattle.croncheck_reading.specs.Same.{meaning_found}
 use Rattle.croncheck_report.specs.Report.{file_and_line}
-use Rattle.croncheck_reading.specs.Same.{compared_in, owner_of, JobKey, key_cmp, are_same, IsCompared, place_kept, KeepsPlaces, Finds, FindsAny}
+use Rattle.croncheck_reading.specs.Same.{job_compared_in, owner_of, JobKey, key_cmp, are_same, IsCompared, place_kept, KeepsPlaces, Finds, FindsAny}
 
 key_cmp_total : IsTotalOrder key_cmp
 key_cmp_total = then_total (on_total (λ (k : JobKey). k.0.items) nat_list_cmp_total) (on_total (λ (k : JobKey). k.1.pattern) pattern_cmp_total)
@@ -96,13 +96,13 @@ none_found view None h = refl
 none_found view (Some m) h = absurd (true≢false (ap is_some (sym h)))
 
 -- nothing is compared of it
-pub finds_nothing : (line : Line) (found : Outcome) (here : List ℕ × ℕ) (seen : Seen) → None ≡ option_map (compared_in line) (meaning_found found)
+pub finds_nothing : (line : Line) (found : Outcome) (here : List ℕ × ℕ) (seen : Seen) → None ≡ option_map (job_compared_in line) (meaning_found found)
     → (key : Option JobKey) × IsCompared line found key × FindsAny key here seen seen None
-finds_nothing line found here seen h = (None, none_found (compared_in line) (meaning_found found) h, (refl, refl))
+finds_nothing line found here seen h = (None, none_found (job_compared_in line) (meaning_found found) h, (refl, refl))
 
 -- it has a job
 pub if_found : {E : Type 0} (line : Line) (outcome : Outcome) (key : JobKey) (here : List ℕ × ℕ) (old new : Seen) (r : Result (Option Same) E)
-    → Some (job_of key.1) ≡ option_map (compared_in line) (meaning_found outcome) → key.0.items ≡ owner_of line
+    → Some (job_of key.1) ≡ option_map (job_compared_in line) (meaning_found outcome) → key.0.items ≡ owner_of line
     → IfOk r (λ found. Finds key here old new found) → IfOk r (λ found. (key : Option JobKey) × IsCompared line outcome key × FindsAny key here old new found)
 if_found line outcome key here old new (Ok found) times owner finds = (Some key, (times, owner), finds)
 if_found line outcome key here old new (Err e) times owner finds = finds

@@ -1,4 +1,4 @@
--- Lines and files that are told one behind the other.
+-- Lines and files that are told one after the other.
 use Rattle.std.proofs.Common.{◌≡◌, ◌<◌, ◌≤◌, ◌+◌, ℕ, List, [], ◌∷◌, ◌++◌, Bool, true, false, Option, Some, None, Result, Ok, Err, inl, inr, ap, sym, ◌∙◌, subst, refl, take, length, get_or, map}
 use Rattle.std.specs.Prelude.{IfSome, OnOk, string_bytes, IsPermutation, IsSorted, if◌then◌else◌}
 use Rattle.std.specs.declared.alloc.Global.{Global}

@@ -30,7 +30,7 @@ pub record HaveContents (holds : List ℕ → Option (List ℕ) → Type 0) (say
 abbrev pub noun_of : ℕ → List ℕ
 noun_of jobs = if jobs == 1 then codes "job" else codes "jobs"
 
--- what is said behind the number of refused lines: how many have a warning, where some have
+-- what is said after the number of refused lines: how many have a warning, where some have
 abbrev pub warned_text : ℕ → List ℕ
 warned_text warned = if warned == 0 then codes " refused\n" else codes " refused, " ++ (decimal warned ++ codes " with warnings\n")
 

@@ -25,9 +25,9 @@ abbrev pub times_compared : Meaning → Meaning
 times_compared m = if m.star_day || m.star_weekday then record m { and = false } else m
 
 -- those of the job of a line: a pattern's are compared as they are
-abbrev pub compared_in : Line → Meaning → Meaning
-compared_in (job task) m = times_compared m
-compared_in other m = m
+abbrev pub job_compared_in : Line → Meaning → Meaning
+job_compared_in (job task) m = times_compared m
+job_compared_in other m = m
 
 -- the bytes of a job's user and of its command, with a byte 0 between, which is in neither
 abbrev pub owner_of : Line → List ℕ
@@ -57,7 +57,7 @@ meaning_found outcomes.NotUtf8 = None
 -- what is compared of a line of which the parser makes this, if anything is
 abbrev pub IsCompared : Line → Outcome → Option JobKey → Type 0
 IsCompared line found None = meaning_found found ≡ None
-IsCompared line found (Some key) = (Some (job_of key.1) ≡ option_map (compared_in line) (meaning_found found)) × (key.0.items ≡ owner_of line)
+IsCompared line found (Some key) = (Some (job_of key.1) ≡ option_map (job_compared_in line) (meaning_found found)) × (key.0.items ≡ owner_of line)
 
 -- ---- what is kept
 

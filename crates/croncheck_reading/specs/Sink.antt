@@ -101,7 +101,7 @@ abbrev pub IsToldEntry : {F : Type 0} → (Terms → State F → LineRead → St
 IsToldEntry takes ends_file k m f old name new =
     let e = entry_of f name in IsToldBy (treatment_of (m.is_folder e.word) e name) takes ends_file k m e old new
 
--- the files of a folder were told, one behind the other, in the order of the bytes of their names
+-- the files of a folder were told, one after the other, in the order of the bytes of their names
 pub record IsToldFolder {F : Type 0} (takes : Terms → State F → LineRead → State F → Type 0) (ends_file : Terms → F → Stand → Written → Written → Type 0)
     (k : TermsByKind) (m : Contents) (f : File) (old new : State F) : Type 0 where
   pub names : List (String Global)
@@ -120,7 +120,7 @@ abbrev pub IsToldAsked : {F : Type 0} → (Terms → State F → LineRead → St
     → Contents → State F → File → State F → Type 0
 IsToldAsked takes ends_file k m old f new = IsToldOf (sort_of (m.is_folder f.word) f) takes ends_file k m f old new
 
--- the files that are asked for were told, one behind the other, each as its kind, and behind all of them their end, which was passed on
+-- the files that are asked for were told, one after the other, each as its kind, and after all of them their end, which was passed on
 abbrev pub IsToldCall : {F : Type 0} → (Terms → State F → LineRead → State F → Type 0) → (Terms → F → Stand → Written → Written → Type 0)
     → (Terms → F → Written → Written → Type 0) → TermsByKind → Contents → List File → State F → State F → Type 0
 IsToldCall {F} takes ends_file ends k m files old new =

@@ -9,7 +9,7 @@ use Rattle.crontab.specs.declared.line.Dialect.{Dialect}
 use Rattle.crontab.specs.Checked.{LineRead, line_seen}
 use Rattle.crontab.specs.Line.{Line as Meant}
 use Rattle.croncheck_report.specs.Allowed.{names_seen}
-use Rattle.croncheck_report.specs.FileSeen.{File, file_seen, is_ignored, unread_of, passed_over, with_line}
+use Rattle.croncheck_report.specs.FileSeen.{File, file_seen, is_ignored, unread_of, of_passed_over, with_line}
 use Rattle.croncheck_reading.specs.Tally.{one_more, with_file}
 
 -- how far the reading has come: what was counted, the jobs that were seen, what was seen of the file, its number from 1, how many of its lines
@@ -32,7 +32,7 @@ begin_of_file name unfit s = record s { file = unread_of name unfit; files = one
 
 -- at the begin of the next file, whose name is shown so, and which cron passes over for it
 abbrev pub begin_passed_over : List ℕ → Stand → Stand
-begin_passed_over name s = record s { file = passed_over name; files = one_more s.files; lines = 0; allowed = [] }
+begin_passed_over name s = record s { file = of_passed_over name; files = one_more s.files; lines = 0; allowed = [] }
 
 -- at the next line, which is this and has its line feed or hasn't
 abbrev pub at_line : Meant → Bool → Stand → Stand

@@ -30,7 +30,7 @@ counted t (reports.Setting seen has_feed) = record t { lines = one_more t.lines 
 counted t (reports.Job j) = record t { lines = one_more t.lines; jobs = one_more t.jobs }
 counted t (reports.Refused start end why) = record t { lines = one_more t.lines; refused = one_more t.refused }
 
--- `many-lines`: the line behind so many of a file is the first for which cron ignores it as too long
+-- `many-lines`: the line after so many of a file is the first for which cron ignores it as too long
 abbrev pub is_too_many : Dialect → ℕ → Line → File → Bool
 is_too_many dialects.User lines line f = is_first_too_many lines
 is_too_many dialects.System lines line f = not f.has_late && is_late (one_more lines) line

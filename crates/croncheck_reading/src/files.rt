@@ -1,4 +1,4 @@
-//! The files of a call, one behind the other.
+//! The files of a call, one after the other.
 ghost use Rattle.std.specs.Prelude.{◌≡◌, ℕ, true, false, List, map, string_bytes, IfOk, IsPermutation, IsSorted, if◌then◌else◌};
 ghost use Rattle.std.specs.declared.alloc.Global.{Global};
 ghost use Rattle.std.specs.declared.string.String.{String};
@@ -17,7 +17,7 @@ use crate::tally::Tally;
 use croncheck_files::fitness::Unfit;
 use croncheck_files::folder::{Sort, Treatment, path_in, sort_of, treatment_of};
 use croncheck_files::names::Asked;
-use croncheck_output::escaped::shown;
+use croncheck_output::escaped::shown_text;
 use crontab::line::Dialect;
 use std::alloc::{AllocError, Global};
 use std::io;
@@ -101,12 +101,12 @@ pub fn tell_files<'s, 't, S: Sources, F: Form, W: Write, N: Write>(
         let file = files[k];
         let sort = sort_of(sources.is_folder(file.word), &file);
         let fails = fails(sources, kinds, sort, file, sink, notes)?;
-        is_failed = any(fails, is_failed);
+        is_failed = either_failed(fails, is_failed);
     }
     conclude(kinds.of(Dialect::User), sink, is_failed, notes)
 }
 
-fn any(fails: bool, is_failed: bool) -> bool
+fn either_failed(fails: bool, is_failed: bool) -> bool
     ensures { result ≡ (if fails then true else is_failed) }
 {
     fails || is_failed
@@ -184,7 +184,7 @@ fn any_fails<'s, 't, S: Sources, F: Form, W: Write, N: Write>(
     let mut is_failed = false;
     for k in 0..names.len() {
         let fails = entry_fails(sources, kinds, folder, names[k].as_str(), sink, notes)?;
-        is_failed = any(fails, is_failed);
+        is_failed = either_failed(fails, is_failed);
     }
     Ok(is_failed)
 }
@@ -298,9 +298,9 @@ fn note_error<N: Write>(
     error: &io::Error,
     notes: &mut N,
 ) -> Result<(), AllocError> {
-    let shown = shown(kinds.of(Dialect::User).alloc, name.as_bytes())?;
+    let shown = shown_text(kinds.of(Dialect::User).alloc, name.as_bytes())?;
     let meant = match error.kind() {
-        ErrorKind::NotFound => meant_by(name),
+        ErrorKind::NotFound => hint_of_name(name),
         _ => "",
     };
     let _ = write!(notes, "croncheck: {shown}: {error}{meant}\n");
@@ -314,13 +314,13 @@ fn note<N: Write>(
     text: &str,
     notes: &mut N,
 ) -> Result<(), AllocError> {
-    let name = shown(kinds.of(Dialect::User).alloc, name.as_bytes())?;
+    let name = shown_text(kinds.of(Dialect::User).alloc, name.as_bytes())?;
     let _ = write!(notes, "croncheck: {name}: {text}\n");
     Ok(())
 }
 
 // What is said of the name of a file that isn't there, where a pattern or a command may have been meant.
-fn meant_by(name: &str) -> &'static str {
+fn hint_of_name(name: &str) -> &'static str {
     if name.is_empty() {
         ""
     } else if has_letters_alone(name) {
@@ -358,7 +358,7 @@ fn summary_of(alloc: Global, tally: Tally) -> Result<String, AllocError>
     format!(in alloc; "{jobs} {noun}, {refused}{warned}")
 }
 
-// What is said behind the number of refused lines.
+// What is said after the number of refused lines.
 fn warned_text(alloc: Global, warned: u64) -> Result<String, AllocError>
     ensures { IfOk result (λ text. string_bytes text ≡ warned_text warned) }
 {

@@ -20,7 +20,7 @@ pub trait Form {
     /// What is written at the end of a file.
     ghost ends_file: { Terms → Self → Stand → Written → Written → Type 0 };
 
-    /// What is written behind all files.
+    /// What is written after all files.
     ghost ends: { Terms → Self → Written → Written → Type 0 };
 
     /// Takes the next line of a file.
@@ -46,7 +46,7 @@ pub trait Form {
         ensures { OnOk result (ends_file terms.now self.now (stand_of progress.now) (written_of W.contents output.old)
             (written_of W.contents output.new)) };
 
-    /// Writes what stands behind all files. The error is as that of `take`.
+    /// Writes what stands after all files. The error is as that of `take`.
     fn end<W: Write>(&self, terms: &Terms<'_, '_>, output: &mut Output<W>) -> io::Result<()>
         ensures { OnOk result (ends terms.now self.now (written_of W.contents output.old) (written_of W.contents output.new)) };
 }

@@ -13,7 +13,7 @@ use croncheck_report::allowed::comment::names_by;
 use croncheck_report::allowed::take_away;
 use croncheck_report::file_seen::FileSeen;
 use croncheck_report::place::Place;
-use croncheck_report::report::{Report, put_behind, report_of_line};
+use croncheck_report::report::{Report, put_after_open_line, report_of_line};
 use croncheck_report::settings::{Settings, SettingsByKind};
 use croncheck_report::shared::Shared;
 use crontab::content::outcome_of;
@@ -146,7 +146,7 @@ impl Progress {
     pub fn begin_passed_over(&mut self, name: String)
         ensures { stand_of self.new ≡ begin_passed_over (string_bytes name) (stand_of self.old) }
     {
-        self.file = FileSeen::passed_over(name);
+        self.file = FileSeen::of_passed_over(name);
         self.files = one_more(self.files);
         self.lines = 0;
         self.allowed.clear();
@@ -198,7 +198,7 @@ impl Progress {
         let outcome = outcome_of(terms.alloc, terms.settings.parser, &entry)?;
         let same = self
             .seen
-            .earlier(terms.alloc, terms.settings, &entry, &outcome, place)?;
+            .first_same(terms.alloc, terms.settings, &entry, &outcome, place)?;
         let Ok(mut report) = report_of_line(
             terms.alloc,
             terms.settings,
@@ -210,7 +210,7 @@ impl Progress {
         ) else {
             return Err(io::Error::from(ErrorKind::OutOfMemory));
         };
-        put_behind(is_open, &mut report);
+        put_after_open_line(is_open, &mut report);
         let allowed = self.allowed.as_slice();
         take_away(terms.alloc, terms.settings, allowed, &mut report)?;
         if let Some(names) = names {

@@ -4,7 +4,7 @@ ghost use Rattle.croner.specs.Views.{job_of as meaning_of_job};
 ghost use Rattle.crontab.specs.Entries.{entry_seen};
 ghost use Rattle.croncheck_reading.specs.Same.{meaning_found};
 ghost use Rattle.croncheck_report.specs.Report.{file_and_line};
-ghost use Rattle.croncheck_reading.specs.Same.{times_compared, compared_in, owner_of, JobKey, IsCompared, are_same, place_kept, KeepsPlaces, Finds, FindsAny};
+ghost use Rattle.croncheck_reading.specs.Same.{times_compared, job_compared_in, owner_of, JobKey, IsCompared, are_same, place_kept, KeepsPlaces, Finds, FindsAny};
 
 use croncheck_report::place::Place;
 use croncheck_report::report::Same;
@@ -41,7 +41,7 @@ impl Seen {
     /// The place of the first job that is the same as that of an entry, of which the parser makes this: its times have the same meaning, and
     /// its user and its command have the same bytes. Where there is none, this one is kept, with its place. Nothing is found and nothing kept where the settings compare no
     /// jobs, or the entry has no job or one without times. An error leaves what was kept.
-    pub fn earlier(
+    pub fn first_same(
         &mut self,
         alloc: Global,
         settings: &Settings<'_>,
@@ -59,13 +59,13 @@ impl Seen {
             return Ok(None);
         }
         match job_compared(entry, outcome)? {
-            Some(job) => self.earlier_job(alloc, owner_of(alloc, entry)?, job, place),
+            Some(job) => self.first_same_job(alloc, owner_of(alloc, entry)?, job, place),
             None => Ok(None),
         }
     }
 
     // The same of a job with these words.
-    fn earlier_job(
+    fn first_same_job(
         &mut self,
         alloc: Global,
         words: Vec<u8>,
@@ -115,10 +115,10 @@ impl Seen {
 
 // The job of an entry as it is compared, of which the parser makes this.
 fn job_compared(entry: &Entry<'_>, outcome: &Outcome) -> Result<Option<Cron>, AllocError>
-    ensures { IfOk result (λ found. option_map meaning_of_job found ≡ option_map (compared_in (entry_seen entry.now)) (meaning_found outcome.now)) }
+    ensures { IfOk result (λ found. option_map meaning_of_job found ≡ option_map (job_compared_in (entry_seen entry.now)) (meaning_found outcome.now)) }
 {
     match outcome {
-        Outcome::Job(job) => Ok(Some(compared_in(entry, job)?)),
+        Outcome::Job(job) => Ok(Some(job_compared_in(entry, job)?)),
         Outcome::NoText
         | Outcome::TimesRefused(_)
         | Outcome::PatternRefused(_)
@@ -127,8 +127,8 @@ fn job_compared(entry: &Entry<'_>, outcome: &Outcome) -> Result<Option<Cron>, Al
 }
 
 // The job of an entry as it is compared.
-fn compared_in(entry: &Entry<'_>, job: &Cron) -> Result<Cron, AllocError>
-    ensures { IfOk result (λ found. meaning_of_job found ≡ compared_in (entry_seen entry.now) (meaning_of_job job.now)) }
+fn job_compared_in(entry: &Entry<'_>, job: &Cron) -> Result<Cron, AllocError>
+    ensures { IfOk result (λ found. meaning_of_job found ≡ job_compared_in (entry_seen entry.now) (meaning_of_job job.now)) }
 {
     match entry {
         Entry::Job(_) => times_compared(job),

@@ -8,14 +8,14 @@ ghost use Rattle.croncheck_reading.specs.Stand.{stand_of, end_of_file};
 use crate::form::Form;
 use crate::progress::{Line, Progress, Terms};
 use croncheck_files::fitness::Unfit;
-use croncheck_output::escaped::shown;
+use croncheck_output::escaped::shown_text;
 use croncheck_output::output::Output;
 use crontab::check::{Entries, check};
 use crontab::line::{Dialect, Entry};
 use std::io;
 use std::io::{BufRead, Write};
 
-/// Takes the lines of files, one file behind the other, and tells of them in a form.
+/// Takes the lines of files, one file after the other, and tells of them in a form.
 pub struct Sink<'s, 't, F, W> {
     // Those of the file that is read.
     terms: Terms<'s, 't>,
@@ -75,7 +75,7 @@ impl<'s, 't, F: Form, W: Write> Sink<'s, 't, F, W> {
         self.output.is_refused()
     }
 
-    /// Takes the lines of a file behind those of the files before, by these terms, and writes what stands at its end. Cron ignores
+    /// Takes the lines of a file after those of the files before, by these terms, and writes what stands at its end. Cron ignores
     /// the file for `unfit`, if there is that.
     ///
     /// The error is that of the reader or of the writer, or says that memory is lacking.
@@ -91,7 +91,7 @@ impl<'s, 't, F: Form, W: Write> Sink<'s, 't, F, W> {
             (state_of W.contents self.old.form self.old.progress self.old.output) (state_of W.contents self.new.form self.new.progress self.new.output))) }
     {
         self.terms = terms;
-        let name = shown(terms.alloc, name.as_bytes())?;
+        let name = shown_text(terms.alloc, name.as_bytes())?;
         self.progress.begin(name, unfit);
         check(terms.alloc, terms.settings.dialect, reader, self)?;
         self.form
@@ -107,7 +107,7 @@ impl<'s, 't, F: Form, W: Write> Sink<'s, 't, F, W> {
         ensures { OnOk result (IsPassedOver (F.ends_file terms.entry) terms.entry.settings.now.dialect (bytes_shown name.now)
             (state_of W.contents self.old.form self.old.progress self.old.output) (state_of W.contents self.new.form self.new.progress self.new.output)) }
     {
-        let name = shown(terms.alloc, name.as_bytes())?;
+        let name = shown_text(terms.alloc, name.as_bytes())?;
         self.progress.begin_passed_over(name);
         self.form
             .end_file(&terms, &self.progress, &mut self.output)?;
@@ -115,7 +115,7 @@ impl<'s, 't, F: Form, W: Write> Sink<'s, 't, F, W> {
         Ok(())
     }
 
-    /// Writes what stands behind all files by these terms, and passes on what was written.
+    /// Writes what stands after all files by these terms, and passes on what was written.
     ///
     /// The error is that of the writer, or says that memory is lacking.
     pub fn end(&mut self, terms: Terms<'s, 't>) -> io::Result<()>

@@ -88,7 +88,7 @@ fn is_line_warned(is_too_many: bool, report: &Report<'_, '_>) -> bool
     report.has_warnings() || is_too_many
 }
 
-/// Whether the line behind so many of a file is the first for which cron ignores it as too long.
+/// Whether the line after so many of a file is the first for which cron ignores it as too long.
 pub fn is_too_many(dialect: Dialect, lines: u64, entry: &Entry<'_>, file: &FileSeen) -> bool
     ensures { result ≡ is_too_many dialect lines (entry_seen entry.now) (file_seen file.now) }
 {

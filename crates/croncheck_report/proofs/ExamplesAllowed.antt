@@ -3,7 +3,7 @@ use Rattle.std.proofs.Common.{◌≡◌, ℕ, List, [], ◌∷◌, true, false, 
 use Rattle.std.specs.Prelude.{codes}
 use Rattle.crontab.specs.Line.{blank, comment, setting, refused}
 use Rattle.crontab.specs.declared.line.Fault.TheVariants as faults
-use Rattle.croncheck_report.specs.Allowed.{list_in, names_in, unknown_in, allowed_behind, is_listed, allowable, hangs_on_clock}
+use Rattle.croncheck_report.specs.Allowed.{list_in, names_in, unknown_name_in, allowed_after, is_listed, allowable, hangs_on_clock}
 
 -- ---- comments
 
@@ -35,13 +35,13 @@ no_name = refl
 a_missing_feed_is_never_allowed : is_listed allowable (codes "no-newline") ≡ false
 a_missing_feed_is_never_allowed = refl
 
-known : unknown_in (codes "# croncheck: allow percent, gap") ≡ None
+known : unknown_name_in (codes "# croncheck: allow percent, gap") ≡ None
 known = refl
 
-unknown : unknown_in (codes "# croncheck: allow percent, eiter-day, x") ≡ Some (codes "eiter-day")
+unknown : unknown_name_in (codes "# croncheck: allow percent, eiter-day, x") ≡ Some (codes "eiter-day")
 unknown = refl
 
-unknown_elsewhere : unknown_in (codes "# allow eiter-day") ≡ None
+unknown_elsewhere : unknown_name_in (codes "# allow eiter-day") ≡ None
 unknown_elsewhere = refl
 
 -- ---- to whom
@@ -49,20 +49,20 @@ unknown_elsewhere = refl
 abbrev the_percent_sign : List (List ℕ)
 the_percent_sign = codes "percent" ∷ []
 
-behind_a_blank_line : allowed_behind blank [] the_percent_sign ≡ the_percent_sign
-behind_a_blank_line = refl
+after_a_blank_line : allowed_after blank [] the_percent_sign ≡ the_percent_sign
+after_a_blank_line = refl
 
-behind_a_comment : allowed_behind comment (codes "# each night") the_percent_sign ≡ the_percent_sign
-behind_a_comment = refl
+after_a_comment : allowed_after comment (codes "# each night") the_percent_sign ≡ the_percent_sign
+after_a_comment = refl
 
-the_last_comment_counts : allowed_behind comment (codes "# croncheck: allow gap") the_percent_sign ≡ codes "gap" ∷ []
+the_last_comment_counts : allowed_after comment (codes "# croncheck: allow gap") the_percent_sign ≡ codes "gap" ∷ []
 the_last_comment_counts = refl
 
-behind_a_setting : allowed_behind (setting false) (codes "A=1") the_percent_sign ≡ []
-behind_a_setting = refl
+after_a_setting : allowed_after (setting false) (codes "A=1") the_percent_sign ≡ []
+after_a_setting = refl
 
-behind_a_refused_line : allowed_behind (refused faults.Minutes) (codes "x") the_percent_sign ≡ []
-behind_a_refused_line = refl
+after_a_refused_line : allowed_after (refused faults.Minutes) (codes "x") the_percent_sign ≡ []
+after_a_refused_line = refl
 
 -- ---- what hangs on zone and date
 

@@ -14,7 +14,7 @@ use Rattle.crontab.specs.Content.{IsOutcomeOfTimes, IsOutcomeOfPattern, IsFaultO
 use Rattle.crontab.specs.Line.{Timing, reboot, never, named}
 use Rattle.croncheck_report.specs.declared.settings.Settings.{Settings}
 use Rattle.croncheck_report.specs.declared.told.Told.{Told}
-use Rattle.croncheck_report.specs.Report.{meaning_of_timing, meaning_read, IsFaultBehind}
+use Rattle.croncheck_report.specs.Report.{meaning_of_timing, meaning_read, IsFaultAfter}
 use Rattle.croncheck_report.specs.Told.{cron_of, TellsMeaning, TellsTiming}
 
 abbrev is_no_text : Outcome → Bool
@@ -50,7 +50,7 @@ pub fault_of : (s : ParserSettings) (text : List ℕ) (fault : PatternFault) →
 fault_of s text fault (utf8, is) = is
 
 -- its place lies in the text
-pub fault_behind : (s : ParserSettings) (blanks : ℕ) (text : List ℕ) (fault : PatternFault) → IsFaultOf s text fault
-    → IsFaultBehind blanks fault (blanks + min fault.start (length text)) (blanks + min fault.end (length text))
-fault_behind s blanks text fault is =
+pub fault_after : (s : ParserSettings) (blanks : ℕ) (text : List ℕ) (fault : PatternFault) → IsFaultOf s text fault
+    → IsFaultAfter blanks fault (blanks + min fault.start (length text)) (blanks + min fault.end (length text))
+fault_after s blanks text fault is =
     (ap (λ (n : ℕ). blanks + n) (min-eq_left is.2.placed.starts.0), ap (λ (n : ℕ). blanks + n) (min-eq_left is.2.placed.ends.0))

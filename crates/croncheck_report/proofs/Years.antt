@@ -27,7 +27,7 @@ int_cases : (a b : ℤ) → (t : Bool) → int_le b a ≡ t → (P : Type 0) →
 int_cases a b true is P less most = most (grind (arith, ints))
 int_cases a b false is P less most = less (grind (arith, ints))
 
--- a year before the first isn't named, nor one behind the last
+-- a year before the first isn't named, nor one after the last
 too_early : (m : Meaning) (k : ℤ) → k <ℤ pos first_year → is_year_matching m k ≡ false
 too_early m k h =
     let no : int_le (pos first_year) k ≡ false = grind (arith, ints) in

@@ -5,7 +5,7 @@ use Rattle.std.specs.Borrow.{Bor}
 use Rattle.std.specs.List.{list_any, slice_split}
 use Rattle.std.specs.Str.{bytes_eq}
 use Rattle.crontab.specs.declared.bytes.Kind.TheVariants as kinds
-use Rattle.crontab.specs.Bytes.{is_space, front, behind, rest_of}
+use Rattle.crontab.specs.Bytes.{is_space, front, text_after, rest_of}
 use Rattle.crontab.specs.Line.{Line, blank, comment, setting, job, pattern, refused, next}
 use Rattle.croncheck_changes.specs.declared.changes.meetings.Met.{Met}
 use Rattle.croncheck_changes.specs.declared.changes.meetings.Meetings.{Meetings}
@@ -41,10 +41,10 @@ names_seen names = map (λ n. n.now) names
 
 -- ---- comments
 
--- the list of a comment that allows something: what stands behind `# croncheck: allow`
+-- the list of a comment that allows something: what stands after `# croncheck: allow`
 abbrev pub list_in : List ℕ → Option (List ℕ)
 list_in line =
-    let text = behind kinds.Blank (rest_of (behind kinds.Blank line)) in
+    let text = text_after kinds.Blank (rest_of (text_after kinds.Blank line)) in
     if bytes_eq (front kinds.Word text) (codes "croncheck:") && bytes_eq (front kinds.Word (next text)) (codes "allow") then Some (next (next text)) else None
 
 -- what stands between the names of a list: a space or a comma
@@ -76,10 +76,10 @@ unknown_in_list None = None
 unknown_in_list (Some list) = first_so is_unknown (items_of list)
 
 -- the first name of a comment's list that no warning has
-abbrev pub unknown_in : List ℕ → Option (List ℕ)
-unknown_in line = unknown_in_list (list_in line)
+abbrev pub unknown_name_in : List ℕ → Option (List ℕ)
+unknown_name_in line = unknown_in_list (list_in line)
 
--- the names that a line allows to those behind it: those of a comment that allows something; none, where it is neither a comment nor blank; and
+-- the names that a line allows to those after it: those of a comment that allows something; none, where it is neither a comment nor blank; and
 -- else it says nothing
 abbrev pub names_by : Line → List ℕ → Option (List (List ℕ))
 names_by blank line = None
@@ -89,9 +89,9 @@ names_by (job task) line = Some []
 names_by (pattern text) line = Some []
 names_by (refused fault) line = Some []
 
--- what is allowed behind a line, of which this was in front: the last that was said
-abbrev pub allowed_behind : Line → List ℕ → List (List ℕ) → List (List ℕ)
-allowed_behind is line before = unwrap_or (names_by is line) before
+-- what is allowed after a line, of which this was in front: the last that was said
+abbrev pub allowed_after : Line → List ℕ → List (List ℕ) → List (List ℕ)
+allowed_after is line before = unwrap_or (names_by is line) before
 
 -- ---- what is taken away
 
@@ -139,8 +139,8 @@ may_stand s j name =
     || ((bytes_eq name (codes "same-job") && may_be_same s j) || ((bytes_eq name (codes "preset") && not (is_some s.preset)) || hangs_on_clock name))
 
 -- `not-needed`: the names that the comment above a job allows and that don't stand there, where the call is strict
-abbrev pub not_needed : Settings → List (List ℕ) → JobReport → List (List ℕ)
-not_needed s above j = if s.is_strict then filter (λ name. not (may_stand s j name)) above else []
+abbrev pub names_not_needed : Settings → List (List ℕ) → JobReport → List (List ℕ)
+names_not_needed s above j = if s.is_strict then filter (λ name. not (may_stand s j name)) above else []
 
 -- ---- the report
 
@@ -154,7 +154,7 @@ pub record IsJobLeft (s : Settings) (above : List (List ℕ)) (old new : JobRepo
   pub same : new.same ≡ (if is_allowed s above (codes "same-job") then None else old.same)
   pub meetings : new.meetings ≡ meetings_left s above old.meetings
   pub warnings : new.warnings.items ≡ warnings_left s above old.warnings.items
-  pub unneeded : names_seen new.unneeded.items ≡ not_needed s above old
+  pub unneeded : names_seen new.unneeded.items ≡ names_not_needed s above old
 
 abbrev pub IsJobOf : (JobReport → Type 0) → Report → Type 0
 IsJobOf holds reports.Silent = ⊥

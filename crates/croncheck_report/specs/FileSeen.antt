@@ -8,7 +8,7 @@ use Rattle.croncheck_report.specs.declared.report.Report.{Report}
 use Rattle.croncheck_report.specs.declared.report.Report.TheVariants as reports
 use Rattle.crontab.specs.Line.{Line, blank, comment, setting, job, pattern, refused}
 use Rattle.croncheck_files.specs.Fitness.{unfit_line}
-use Rattle.croncheck_warnings.specs.Warnings.{are_many_lines, is_behind_last, is_continued}
+use Rattle.croncheck_warnings.specs.Warnings.{are_many_lines, is_after_last, is_continued}
 
 -- a line counts for cron where no line feed ends it: it is neither blank nor a comment
 abbrev pub counts : Line → Bool
@@ -30,7 +30,7 @@ is_refused (reports.Refused start end why) = true
 -- ---- the file
 
 -- what contracts see of a file: its name as it is shown, that a line of it is refused, that its last line has no line feed and counts, that
--- cron passes over it for its name, that a line which counts stands behind the last one that cron takes in a crontab of the system, why
+-- cron passes over it for its name, that a line which counts stands after the last one that cron takes in a crontab of the system, why
 -- cron ignores it by what the file system says of it, if it does, and that its last line seems to go on in the next
 pub record File : Type 0 where
   pub name : List ℕ
@@ -62,12 +62,12 @@ abbrev pub unread_of : List ℕ → Option Unfit → File
 unread_of name unfit = record (unread name) { unfit = unfit }
 
 -- the same, where cron passes over it for its name
-abbrev pub passed_over : List ℕ → File
-passed_over name = record (unread name) { is_passed_over = true }
+abbrev pub of_passed_over : List ℕ → File
+of_passed_over name = record (unread name) { is_passed_over = true }
 
--- a job or a setting at this line, counted from 1, stands behind the last one that cron takes in a crontab of the system
+-- a job or a setting at this line, counted from 1, stands after the last one that cron takes in a crontab of the system
 abbrev pub is_late : ℕ → Line → Bool
-is_late number line = counts line && is_behind_last number
+is_late number line = counts line && is_after_last number
 
 -- a line seems to go on in the next: it is a job whose command ends in a backslash
 abbrev pub is_open : Line → Bool

@@ -11,7 +11,7 @@ use Rattle.croner.specs.parser.Grammar.{Refusal, outcome, Texts}
 use Rattle.crontab.specs.declared.bytes.Kind.TheVariants as kinds
 use Rattle.crontab.specs.declared.line.Entry.{Entry}
 use Rattle.crontab.specs.declared.line.Entry.TheVariants as entries
-use Rattle.crontab.specs.Bytes.{front, behind}
+use Rattle.crontab.specs.Bytes.{front, text_after}
 use Rattle.crontab.specs.Content.{IsRefusalOf, IsFaultOf}
 use Rattle.crontab.specs.Entries.{job_seen}
 use Rattle.crontab.specs.declared.notes.Note.{Note}
@@ -35,7 +35,7 @@ use Rattle.croncheck_report.specs.declared.told.Told.TheVariants as tolds
 use Rattle.croncheck_report.specs.declared.told.Told.{Told}
 use Rattle.croncheck_warnings.specs.declared.warnings.Warning.{Warning}
 use Rattle.croncheck_warnings.specs.declared.warnings.sides.Dates.{Dates}
-use Rattle.croncheck_report.specs.Allowed.{unknown_in}
+use Rattle.croncheck_report.specs.Allowed.{unknown_name_in}
 use Rattle.croncheck_changes.specs.Changes.{AreMeetings, none_met, are_warned}
 use Rattle.croncheck_warnings.specs.Hidden.{has_hidden}
 use Rattle.croncheck_report.specs.Settings.{start_of}
@@ -83,7 +83,7 @@ pub record IsWarned (is_fed : Bool) (users : Option (List ℕ)) (schedule : List
 abbrev pub WarnsJob : Bool → Option (List ℕ) → Task → Told → List Warning → Type 0
 WarnsJob is_fed users task told found = IsWarned is_fed users task.schedule task.user task.command (meaning_of_timing task.times) told found
 
--- the warnings of a pattern of this meaning that was told so; behind them what the program of a preset makes otherwise
+-- the warnings of a pattern of this meaning that was told so; after them what the program of a preset makes otherwise
 pub record WarnsPattern (preset : Option Preset) (is_fed : Bool) (text : List ℕ) (meaning : Option Meaning) (told : Told) (found : List Warning) : Type 0 where
   pub fields : Option Texts
   pub fields_are : AreFieldsOfPattern text fields
@@ -168,21 +168,21 @@ IsUnreadTiming (named text both) e = IsRefusalOf e (outcome (crontab_settings bo
 -- why a job of a crontab is refused
 abbrev pub IsJobRefused : Task → Why → Type 0
 IsJobRefused task (whys.Cron fault) = ⊥
-IsJobRefused task (whys.Behind fault) = ⊥
+IsJobRefused task (whys.AfterOpenLine fault) = ⊥
 IsJobRefused task (whys.Pattern fault taken) = ⊥
 IsJobRefused task (whys.Crate e) = IsUnreadTiming task.times e
 IsJobRefused task whys.NotText = ⊥
 IsJobRefused task whys.NoUser = ⊥
 
--- a place is the whole of a text behind so many blanks
-abbrev pub IsWholeBehind : ℕ → List ℕ → ℕ → ℕ → Type 0
-IsWholeBehind blanks text start end = (start ≡ blanks) × (end ≡ blanks + length text)
+-- a place is the whole of a text after so many blanks
+abbrev pub IsWholeAfter : ℕ → List ℕ → ℕ → ℕ → Type 0
+IsWholeAfter blanks text start end = (start ≡ blanks) × (end ≡ blanks + length text)
 
--- a place is that of a fault in a text behind so many blanks
-abbrev pub IsFaultBehind : ℕ → PatternFault → ℕ → ℕ → Type 0
-IsFaultBehind blanks fault start end = (start ≡ blanks + fault.start) × (end ≡ blanks + fault.end)
+-- a place is that of a fault in a text after so many blanks
+abbrev pub IsFaultAfter : ℕ → PatternFault → ℕ → ℕ → Type 0
+IsFaultAfter blanks fault start end = (start ≡ blanks + fault.start) × (end ≡ blanks + fault.end)
 
--- the report of a job of a crontab, behind so many blanks; the place of a refusal is that of its times
+-- the report of a job of a crontab, after so many blanks; the place of a refusal is that of its times
 abbrev pub IsReportOfJob : Bool → Settings → ℕ → Task → Report → Type 0
 IsReportOfJob is_fed s blanks task reports.Silent = ⊥
 IsReportOfJob is_fed s blanks task (reports.Misnamed name) = ⊥
@@ -190,7 +190,7 @@ IsReportOfJob is_fed s blanks task (reports.Setting seen has_feed) = ⊥
 IsReportOfJob is_fed s blanks task (reports.Job j) =
     IsJobTold task.schedule task.user (Some task.command) (TellsTiming s task.schedule task.times) (WarnsJob is_fed (users_seen s.users) task) (MeetsJob s task)
     (DatesOf (meaning_of_timing task.times)) j
-IsReportOfJob is_fed s blanks task (reports.Refused start end why) = IsWholeBehind blanks task.schedule start end × IsJobRefused task why
+IsReportOfJob is_fed s blanks task (reports.Refused start end why) = IsWholeAfter blanks task.schedule start end × IsJobRefused task why
 
 -- the user of a job is refused, at its name
 abbrev pub refused_user : List ℕ → Task → Report
@@ -203,18 +203,18 @@ IsReportBy false is_fed s line task r = IsReportOfJob is_fed s (blanks_of line) 
 
 -- ---- a pattern
 
--- why and where a pattern behind so many blanks is refused: the parser refuses it, its fault is one of that refusal, and with it stands what
+-- why and where a pattern after so many blanks is refused: the parser refuses it, its fault is one of that refusal, and with it stands what
 -- the program of a preset takes; or the whole of it is no text
 abbrev pub IsPatternRefused : Settings → ℕ → List ℕ → ℕ → ℕ → Why → Type 0
 IsPatternRefused s blanks text start end (whys.Cron fault) = ⊥
-IsPatternRefused s blanks text start end (whys.Behind fault) = ⊥
+IsPatternRefused s blanks text start end (whys.AfterOpenLine fault) = ⊥
 IsPatternRefused s blanks text start end (whys.Pattern fault taken) =
-    IsFaultOf s.parser text fault × IsFaultBehind blanks fault start end × AreReadings s.preset true text taken.items
+    IsFaultOf s.parser text fault × IsFaultAfter blanks fault start end × AreReadings s.preset true text taken.items
 IsPatternRefused s blanks text start end (whys.Crate e) = ⊥
-IsPatternRefused s blanks text start end whys.NotText = ¬ (IsUtf8 text) × IsWholeBehind blanks text start end
+IsPatternRefused s blanks text start end whys.NotText = ¬ (IsUtf8 text) × IsWholeAfter blanks text start end
 IsPatternRefused s blanks text start end whys.NoUser = ⊥
 
--- the report of a pattern behind so many blanks
+-- the report of a pattern after so many blanks
 abbrev pub IsReportOfPattern : Bool → Settings → ℕ → List ℕ → Report → Type 0
 IsReportOfPattern is_fed s blanks text reports.Silent = ⊥
 IsReportOfPattern is_fed s blanks text (reports.Misnamed name) = ⊥
@@ -230,8 +230,8 @@ IsReportOfPattern is_fed s blanks text (reports.Refused start end why) = IsPatte
 abbrev pub setting_found : Bool → List ℕ → SettingReport
 setting_found is_zone line = record {
   is_zone = is_zone;
-  is_not_expanded = is_not_expanded (behind kinds.Blank line);
-  is_hiding = has_hidden (behind kinds.Blank line);
+  is_not_expanded = is_not_expanded (text_after kinds.Blank line);
+  is_hiding = has_hidden (text_after kinds.Blank line);
 }
 
 -- any of these is found
@@ -252,28 +252,28 @@ IsReportOfComment (Some name) (reports.Refused start end why) = ⊥
 -- the report of the entry of a line, which has its line feed or hasn't
 abbrev pub IsReportOfLine : Bool → Settings → List ℕ → Entry → Report → Type 0
 IsReportOfLine is_fed s line entries.Blank r = r ≡ reports.Silent
-IsReportOfLine is_fed s line entries.Comment r = IsReportOfComment (unknown_in line) r
+IsReportOfLine is_fed s line entries.Comment r = IsReportOfComment (unknown_name_in line) r
 IsReportOfLine is_fed s line (entries.Setting is_zone) r = r ≡ reports.Setting (setting_found is_zone line) is_fed
 IsReportOfLine is_fed s line (entries.Job j) r = IsReportBy (is_unknown (users_seen s.users) (job_seen j).user) is_fed s line (job_seen j) r
 IsReportOfLine is_fed s line (entries.Pattern text) r = IsReportOfPattern is_fed s (blanks_of line) text.now r
 IsReportOfLine is_fed s line (entries.Refused fault start end) r = r ≡ reports.Refused start end (whys.Cron fault)
 
--- why a line is refused, behind one that seems to go on
-abbrev pub why_behind : Why → Why
-why_behind (whys.Cron fault) = whys.Behind fault
-why_behind (whys.Behind fault) = whys.Behind fault
-why_behind (whys.Pattern fault taken) = whys.Pattern fault taken
-why_behind (whys.Crate refusal) = whys.Crate refusal
-why_behind whys.NotText = whys.NotText
-why_behind whys.NoUser = whys.NoUser
+-- why a line is refused, after one that seems to go on
+abbrev pub why_after_open_line : Why → Why
+why_after_open_line (whys.Cron fault) = whys.AfterOpenLine fault
+why_after_open_line (whys.AfterOpenLine fault) = whys.AfterOpenLine fault
+why_after_open_line (whys.Pattern fault taken) = whys.Pattern fault taken
+why_after_open_line (whys.Crate refusal) = whys.Crate refusal
+why_after_open_line whys.NotText = whys.NotText
+why_after_open_line whys.NoUser = whys.NoUser
 
--- the report of a line behind one that seems to go on, or that doesn't
-abbrev pub report_behind : Bool → Report → Report
-report_behind is_open reports.Silent = reports.Silent
-report_behind is_open (reports.Misnamed name) = reports.Misnamed name
-report_behind is_open (reports.Setting seen has_feed) = reports.Setting seen has_feed
-report_behind is_open (reports.Job j) = reports.Job j
-report_behind is_open (reports.Refused start end why) = reports.Refused start end (if is_open then why_behind why else why)
+-- the report of a line after one that seems to go on, or that doesn't
+abbrev pub report_after_line : Bool → Report → Report
+report_after_line is_open reports.Silent = reports.Silent
+report_after_line is_open (reports.Misnamed name) = reports.Misnamed name
+report_after_line is_open (reports.Setting seen has_feed) = reports.Setting seen has_feed
+report_after_line is_open (reports.Job j) = reports.Job j
+report_after_line is_open (reports.Refused start end why) = reports.Refused start end (if is_open then why_after_open_line why else why)
 
 -- ---- the same job
 
@@ -327,7 +327,7 @@ notes_of_job (Some command) line = notes_of None line
 -- the notes of a line that is refused: where cron refuses it
 abbrev pub notes_of_refusal : Why → List ℕ → List Note
 notes_of_refusal (whys.Cron fault) line = notes_of (Some fault) line
-notes_of_refusal (whys.Behind fault) line = notes_of (Some fault) line
+notes_of_refusal (whys.AfterOpenLine fault) line = notes_of (Some fault) line
 notes_of_refusal (whys.Pattern fault taken) line = []
 notes_of_refusal (whys.Crate e) line = []
 notes_of_refusal whys.NotText line = []
@@ -336,7 +336,7 @@ notes_of_refusal whys.NoUser line = []
 -- what the program of a preset takes of a pattern that is refused
 abbrev pub taken_of : Why → List Reading
 taken_of (whys.Cron fault) = []
-taken_of (whys.Behind fault) = []
+taken_of (whys.AfterOpenLine fault) = []
 taken_of (whys.Pattern fault taken) = taken.items
 taken_of (whys.Crate e) = []
 taken_of whys.NotText = []

@@ -50,7 +50,7 @@ summary_language tongues.Swedish = languages.Swedish
 abbrev pub IsDescription : Tongue → Meaning → List ℕ → Type 0
 IsDescription l m text = (s : Summary) × SaysTheSchedule s m × (text ≡ text_of (summary_language l) s)
 
--- a meaning is told in words, and by what is listed of it behind the start by what runs the line, before it and how often where that is asked, and
+-- a meaning is told in words, and by what is listed of it after the start by what runs the line, before it and how often where that is asked, and
 -- whether its years are past
 pub record IsTold (s : Settings) (runner : Runner) (m : Meaning) (text : String Global) (runs : Runs) (previous : Option Runs) (often : Option Often)
     (is_past : Bool) : Type 0 where

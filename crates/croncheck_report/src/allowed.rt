@@ -2,7 +2,7 @@
 ghost use Rattle.std.specs.Prelude.{◌≡◌, filter, not, IfOk, OnOk, ◌&&◌};
 ghost use Rattle.std.specs.List.{list_any};
 ghost use Rattle.std.specs.Str.{bytes_eq};
-ghost use Rattle.croncheck_report.specs.Allowed.{allowable, is_listed, names_seen, is_allowed, is_met_allowed, met_left, meetings_left, warnings_left, setting_left, hangs_on_clock, may_be_same, may_stand, not_needed, IsJobLeft, IsLeft};
+ghost use Rattle.croncheck_report.specs.Allowed.{allowable, is_listed, names_seen, is_allowed, is_met_allowed, met_left, meetings_left, warnings_left, setting_left, hangs_on_clock, may_be_same, may_stand, names_not_needed, IsJobLeft, IsLeft};
 ghost use Rattle.croncheck_warnings.specs.Warnings.{warning_name, other_name};
 
 pub mod comment;
@@ -13,7 +13,7 @@ use crate::settings::Settings;
 use croncheck_changes::changes::meetings::{Meetings, Met};
 use croncheck_warnings::presets::PRESET;
 use croncheck_warnings::warnings::{OtherWarning, SAME_JOB, Warning};
-pub use nearest::{nearest_to, push_unknown};
+pub use nearest::{nearest_name, push_unknown};
 use std::alloc::{AllocError, Global};
 
 /// The names of the warnings that may be allowed, in the order of the table in docs/CRONTAB.md.
@@ -57,10 +57,10 @@ pub const UNKNOWN_NAME: &str = "unknown-name";
 fn is_listed(names: &[&str], name: &[u8]) -> bool
     ensures { result ≡ is_listed (names_seen names.now) name.now }
 {
-    any_is(names, name)
+    is_one_of(names, name)
 }
 
-fn any_is(names: &[&str], name: &[u8]) -> bool
+fn is_one_of(names: &[&str], name: &[u8]) -> bool
     ensures { result ≡ list_any (λ n. bytes_eq n.now name.now) names.now }
 {
     names.iter().any(|known| is_text(known, name))
@@ -134,7 +134,7 @@ fn take_from_job(
 ) -> Result<(), AllocError>
     ensures { OnOk result (IsJobLeft settings.now (names_seen above.now) job.old job.new) }
 {
-    let unneeded = not_needed(alloc, settings, above, job)?;
+    let unneeded = names_not_needed(alloc, settings, above, job)?;
     let warnings = warnings_left(alloc, settings, above, job.warnings.as_slice())?;
     job.unneeded = unneeded;
     job.warnings = warnings;
@@ -191,23 +191,23 @@ fn is_met_allowed(settings: &Settings<'_>, above: &[&str], met: Met) -> bool
 // ---- what is allowed in vain
 
 // The names that the comment above a job allows and that don't stand there, where the settings are strict.
-fn not_needed(
+fn names_not_needed(
     alloc: Global,
     settings: &Settings<'_>,
     above: &[&'static str],
     job: &JobReport<'_, '_>,
 ) -> Result<Vec<&'static str>, AllocError>
-    ensures { IfOk result (λ names. names_seen names.items ≡ not_needed settings.now (names_seen above.now) job.now) }
+    ensures { IfOk result (λ names. names_seen names.items ≡ names_not_needed settings.now (names_seen above.now) job.now) }
 {
     if settings.is_strict {
-        in_vain(alloc, settings, above, job)
+        strict_names_in_vain(alloc, settings, above, job)
     } else {
         Ok(Vec::new(alloc))
     }
 }
 
 // The same, where they are strict.
-fn in_vain(
+fn strict_names_in_vain(
     alloc: Global,
     settings: &Settings<'_>,
     above: &[&'static str],

@@ -1,12 +1,12 @@
 //! What was seen of the file that is read, and what cron makes of it as a whole.
 ghost use Rattle.std.specs.Prelude.{◌≡◌, ◌++◌, codes, IfOk, OnOk, string_bytes};
 ghost use Rattle.crontab.specs.Entries.{entry_seen};
-ghost use Rattle.croncheck_report.specs.FileSeen.{file_seen, unread_of, passed_over, with_line, with_report, counts, is_refused, if_so, ignored, unfit_reason, is_ignored, name_text, reasons_of, whole_of, ending_of, is_late, is_open, has_many_lines, many_lines_text};
+ghost use Rattle.croncheck_report.specs.FileSeen.{file_seen, unread_of, of_passed_over, with_line, with_report, counts, is_refused, if_so, ignored, unfit_reason, is_ignored, name_text, reasons_of, whole_of, ending_of, is_late, is_open, has_many_lines, many_lines_text};
 
 use crate::report::Report;
 use croncheck_files::fitness::Unfit;
 use croncheck_warnings::warnings::command::is_continued;
-use croncheck_warnings::warnings::{are_many_lines, is_behind_last};
+use croncheck_warnings::warnings::{are_many_lines, is_after_last};
 use crontab::line::{Dialect, Entry};
 use std::alloc::{AllocError, Global};
 
@@ -20,7 +20,7 @@ pub struct FileSeen {
     is_unfed: bool,
     // Cron passes over it for its name, so that none of its lines is read.
     is_passed_over: bool,
-    // A job or a setting stands behind the last line at which cron takes one in a crontab of the system.
+    // A job or a setting stands after the last line at which cron takes one in a crontab of the system.
     has_late: bool,
     // Why cron ignores it by what the file system says of it, if it does.
     unfit: Option<Unfit>,
@@ -46,8 +46,8 @@ impl FileSeen {
     }
 
     /// A file that cron passes over for its name, by that name as it is shown.
-    pub fn passed_over(name: String) -> FileSeen
-        ensures { file_seen result ≡ passed_over (string_bytes name) }
+    pub fn of_passed_over(name: String) -> FileSeen
+        ensures { file_seen result ≡ of_passed_over (string_bytes name) }
     {
         FileSeen {
             name,
@@ -81,7 +81,7 @@ impl FileSeen {
         self.is_unfed
     }
 
-    /// A job or a setting stands behind the last line at which cron takes one in a crontab of the system.
+    /// A job or a setting stands after the last line at which cron takes one in a crontab of the system.
     pub fn has_late(&self) -> bool
         ensures { result ≡ (file_seen self.now).has_late }
     {
@@ -264,11 +264,11 @@ pub fn is_refused(report: &Report<'_, '_>) -> bool
     }
 }
 
-/// Whether the line of this number, counted from 1, is a job or a setting behind the last one that cron takes in a crontab of the system.
+/// Whether the line of this number, counted from 1, is a job or a setting after the last one that cron takes in a crontab of the system.
 pub fn is_late(number: u64, entry: &Entry<'_>) -> bool
     ensures { result ≡ is_late number (entry_seen entry.now) }
 {
-    counts(entry) && is_behind_last(number)
+    counts(entry) && is_after_last(number)
 }
 
 // Whether the line of an entry counts for cron where no line feed ends it.

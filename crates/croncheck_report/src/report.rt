@@ -5,14 +5,14 @@ ghost use Rattle.croner.specs.Views.{job_of as meaning_of_job};
 ghost use Rattle.crontab.specs.Content.{IsOutcome, IsOutcomeOfTimes, IsOutcomeOfPattern};
 ghost use Rattle.crontab.specs.Entries.{entry_seen, job_seen, times_seen};
 ghost use Rattle.croncheck_report.specs.declared.settings.Settings.{Settings as Made};
-ghost use Rattle.croncheck_report.specs.Allowed.{unknown_in};
-ghost use Rattle.croncheck_report.specs.Report.{IsReportOfJob, IsReportOfPattern, blanks_of, IsReportOfLine, IsReportOfComment, TellsChanges, subject_of, IsWarned, WarnsPattern, TellsDates, file_and_line, earlier_of, place_for, HasNoPlace, setting_found, is_setting_found, has_job_warnings, has_warnings, notes_of_job, notes_of_refusal, taken_of, notes_of_report, refused_user, IsReportBy, why_behind, report_behind};
+ghost use Rattle.croncheck_report.specs.Allowed.{unknown_name_in};
+ghost use Rattle.croncheck_report.specs.Report.{IsReportOfJob, IsReportOfPattern, blanks_of, IsReportOfLine, IsReportOfComment, TellsChanges, subject_of, IsWarned, WarnsPattern, TellsDates, file_and_line, earlier_of, place_for, HasNoPlace, setting_found, is_setting_found, has_job_warnings, has_warnings, notes_of_job, notes_of_refusal, taken_of, notes_of_report, refused_user, IsReportBy, why_after_open_line, report_after_line};
 ghost use Rattle.croncheck_warnings.specs.Users.{users_seen, is_unknown};
 ghost use Rattle.croncheck_warnings.specs.Starred.{is_starred};
 ghost use Rattle.croncheck_report.specs.Told.{TellsTiming};
 ghost use Rattle.croncheck_warnings.specs.Warnings.{fields_seen, subject_seen};
 
-use crate::allowed::comment::unknown_in;
+use crate::allowed::comment::unknown_name_in;
 use crate::settings::Settings;
 use crate::told::{Told, is_idle, told_of, told_of_crontab};
 use croncheck_changes::changes::meetings::Meetings;
@@ -53,7 +53,7 @@ pub enum Report<'l, 't> {
     Refused {
         /// The byte of the line at which the fault begins, from 0.
         start: usize,
-        /// The byte behind its last one.
+        /// The byte after its last one.
         end: usize,
         why: Why,
     },
@@ -142,7 +142,7 @@ pub enum Why {
     /// Cron refuses it, or this checker does.
     Cron(Fault),
     /// The same, and the line before seems to go on in it: its command ends in a backslash.
-    Behind(Fault),
+    AfterOpenLine(Fault),
     /// The crate's parser refuses the pattern; the program of the settings' preset takes this of it.
     Pattern(PatternFault, Vec<Reading>),
     /// The crate's parser refuses the text that the line's times were made into.
@@ -208,7 +208,7 @@ impl Why {
         ensures { IfOk result (λ found. found.items ≡ notes_of_refusal self.now line.now) }
     {
         match self {
-            Why::Cron(fault) | Why::Behind(fault) => notes_of(alloc, Some(*fault), line),
+            Why::Cron(fault) | Why::AfterOpenLine(fault) => notes_of(alloc, Some(*fault), line),
             Why::Pattern(_, _) | Why::Crate(_) | Why::NotText | Why::NoUser => {
                 Ok(Vec::new(alloc))
             }
@@ -216,12 +216,13 @@ impl Why {
     }
 
     /// What the program of a preset takes of it.
-    pub fn taken(&self) -> &[Reading]
+    pub fn readings_taken(&self) -> &[Reading]
         ensures { result.now ≡ taken_of self.now }
     {
         match self {
             Why::Pattern(_, taken) => taken.as_slice(),
-            Why::Cron(_) | Why::Behind(_) | Why::Crate(_) | Why::NotText | Why::NoUser => &[],
+            Why::Cron(_) | Why::AfterOpenLine(_) | Why::Crate(_) | Why::NotText | Why::NoUser =>
+                &[],
         }
     }
 }
@@ -231,7 +232,7 @@ impl Why {
 ///
 /// A job is refused exactly where its user is none of those that are known, at the user's name, or where the crate's parser
 /// refuses the text of its times; and a pattern where the parser refuses it or it is no UTF-8. The place of such a refusal
-/// lies behind the blanks in front of the line. The place that was found of an earlier job stands in the report, if that is
+/// lies after the blanks in front of the line. The place that was found of an earlier job stands in the report, if that is
 /// of a job or a pattern that is read. The only error is `OutOfMemory`.
 pub fn report_of_line<'l, 't>(
     alloc: Global,
@@ -266,11 +267,11 @@ pub fn report_of_line<'l, 't>(
 }
 
 /// Puts into the report of a line that the line before seems to go on in it, if it does.
-pub fn put_behind(is_open: bool, report: &mut Report<'_, '_>)
-    ensures { report.new ≡ report_behind is_open report.old }
+pub fn put_after_open_line(is_open: bool, report: &mut Report<'_, '_>)
+    ensures { report.new ≡ report_after_line is_open report.old }
 {
     match report {
-        Report::Refused { why, .. } if is_open => put_why_behind(why),
+        Report::Refused { why, .. } if is_open => put_why_after_open_line(why),
         Report::Silent
         | Report::Misnamed(_)
         | Report::Setting { .. }
@@ -279,24 +280,25 @@ pub fn put_behind(is_open: bool, report: &mut Report<'_, '_>)
     }
 }
 
-fn put_why_behind(why: &mut Why)
-    ensures { why.new ≡ why_behind why.old }
+fn put_why_after_open_line(why: &mut Why)
+    ensures { why.new ≡ why_after_open_line why.old }
 {
     match why {
         Why::Cron(fault) => {
             let fault = *fault;
-            *why = Why::Behind(fault);
+            *why = Why::AfterOpenLine(fault);
         }
-        Why::Behind(_) | Why::Pattern(_, _) | Why::Crate(_) | Why::NotText | Why::NoUser => {}
+        Why::AfterOpenLine(_) | Why::Pattern(_, _) | Why::Crate(_) | Why::NotText | Why::NoUser =>
+            {}
     }
 }
 
 // The report of a comment: the first name that it allows and that no warning has, if there is one.
 fn report_of_comment<'l, 't>(line: &'l [u8]) -> Report<'l, 't>
-    ensures report { IsReportOfComment (unknown_in line.now) result }
+    ensures report { IsReportOfComment (unknown_name_in line.now) result }
     ensures passed { HasNoPlace result }
 {
-    match unknown_in(line) {
+    match unknown_name_in(line) {
         Some(name) => Report::Misnamed(name),
         None => Report::Silent,
     }
@@ -338,13 +340,13 @@ fn report_of_owned<'l, 't>(
     ensures err { IfErr result (λ e. e ≡ CronError.OutOfMemory) }
 {
     if is_unknown(settings.users, job.user) {
-        return Ok(user_refused(line, &job));
+        return Ok(refused_user_report(line, &job));
     }
     report_of_job(alloc, settings, line, job, outcome, is_fed, same)
 }
 
 // The user of a job is refused.
-fn user_refused<'l, 't>(line: &[u8], job: &Job<'_>) -> Report<'l, 't>
+fn refused_user_report<'l, 't>(line: &[u8], job: &Job<'_>) -> Report<'l, 't>
     ensures { result ≡ refused_user line.now (job_seen job.now) }
 {
     Report::Refused {
@@ -372,12 +374,16 @@ fn report_of_job<'l, 't>(
         Outcome::Job(cron) => {
             let is_starred = is_starred(job.schedule);
             let crontab_job = CrontabJob { cron, is_starred };
-            told_of_job(alloc, settings, job, &crontab_job, is_fed, same)
+            report_of_parsed_job(alloc, settings, job, &crontab_job, is_fed, same)
         }
-        Outcome::NoText => told_of_no_text(alloc, settings, job, is_fed, same),
-        Outcome::TimesRefused(refusal) => Ok(refused(line, job.schedule, Why::Crate(refusal))),
+        Outcome::NoText => report_of_no_text(alloc, settings, job, is_fed, same),
+        Outcome::TimesRefused(refusal) => Ok(refused_report(
+            line,
+            job.schedule,
+            Why::Crate(refusal),
+        )),
         // A pattern alone is refused so.
-        Outcome::PatternRefused(_) | Outcome::NotUtf8 => Ok(refused(
+        Outcome::PatternRefused(_) | Outcome::NotUtf8 => Ok(refused_report(
             line,
             job.schedule,
             Why::NotText,
@@ -386,7 +392,7 @@ fn report_of_job<'l, 't>(
 }
 
 // The report of a job of whose times the parser makes this one, starred as they are written.
-fn told_of_job<'l, 't>(
+fn report_of_parsed_job<'l, 't>(
     alloc: Global,
     settings: &Settings<'t>,
     job: Job<'l>,
@@ -422,7 +428,7 @@ fn told_of_job<'l, 't>(
 }
 
 // The report of a job that has no text for the parser.
-fn told_of_no_text<'l, 't>(
+fn report_of_no_text<'l, 't>(
     alloc: Global,
     settings: &Settings<'t>,
     job: Job<'l>,
@@ -537,8 +543,8 @@ fn subject_of<'s, 'j>(
     }
 }
 
-// The whole of a text behind the blanks of a line is refused.
-fn refused<'l, 't>(line: &[u8], text: &[u8], why: Why) -> Report<'l, 't>
+// The whole of a text after the blanks of a line is refused.
+fn refused_report<'l, 't>(line: &[u8], text: &[u8], why: Why) -> Report<'l, 't>
     ensures { result ≡ Report.Refused (blanks_of line.now) (blanks_of line.now + length text.now) why }
 {
     let blanks = blanks(line);
@@ -549,8 +555,8 @@ fn refused<'l, 't>(line: &[u8], text: &[u8], why: Why) -> Report<'l, 't>
     }
 }
 
-// A text behind the blanks of a line is refused for a fault in it.
-fn pattern_refused<'l, 't>(
+// A text after the blanks of a line is refused for a fault in it.
+fn refused_pattern_report<'l, 't>(
     line: &[u8],
     text: &str,
     fault: PatternFault,
@@ -581,16 +587,16 @@ fn report_of_pattern<'l, 't>(
     ensures err { IfErr result (λ e. e ≡ CronError.OutOfMemory) }
 {
     let Ok(text) = std::str::from_utf8(bytes) else {
-        return Ok(refused(line, bytes, Why::NotText));
+        return Ok(refused_report(line, bytes, Why::NotText));
     };
     match outcome {
-        Outcome::Job(job) => told_of_pattern(alloc, settings, text, &job, is_fed, same),
+        Outcome::Job(job) => report_of_parsed_pattern(alloc, settings, text, &job, is_fed, same),
         Outcome::PatternRefused(fault) => {
             let taken = readings_of(alloc, settings.preset, true, text)?;
-            Ok(pattern_refused(line, text, fault, taken))
+            Ok(refused_pattern_report(line, text, fault, taken))
         }
         // No pattern that is UTF-8 is refused so.
-        Outcome::NoText | Outcome::TimesRefused(_) | Outcome::NotUtf8 => Ok(refused(
+        Outcome::NoText | Outcome::TimesRefused(_) | Outcome::NotUtf8 => Ok(refused_report(
             line,
             bytes,
             Why::NotText,
@@ -599,7 +605,7 @@ fn report_of_pattern<'l, 't>(
 }
 
 // The report of a pattern that the parser takes, and makes this job of.
-fn told_of_pattern<'l, 't>(
+fn report_of_parsed_pattern<'l, 't>(
     alloc: Global,
     settings: &Settings<'t>,
     text: &'l str,
@@ -651,7 +657,7 @@ fn warnings_of_pattern(
     Ok(warnings)
 }
 
-// Puts what another program makes otherwise behind some warnings.
+// Puts after some warnings what another program makes otherwise.
 fn push_readings(warnings: &mut Vec<Warning>, readings: &[Reading]) -> Result<(), AllocError>
     ensures { OnOk result (warnings.new.items ≡ warnings.old.items ++ map Warning.Preset readings.now) }
 {

@@ -29,11 +29,11 @@ pub struct Settings<'t> {
     /// The program whose reading of patterns is told too, if one is asked for.
     pub preset: Option<Preset>,
     pub language: Tongue,
-    /// The clock, the start behind which runs are listed, and the changes of the clock from there on. No run is listed
-    /// behind the clock's window.
+    /// The clock, the start after which runs are listed, and the changes of the clock from there on. No run is listed
+    /// after the clock's window.
     pub changes: &'t Changes<'t>,
     pub listing: Listing,
-    /// The start is the second at which the call is made: behind each run stands how far off it is.
+    /// The start is the second at which the call is made: after each run stands how far off it is.
     pub is_from_now: bool,
     /// The runs up to the start that are told too, if any are.
     pub previous: Option<&'t Previous<'t>>,
@@ -63,7 +63,7 @@ impl<'t> Settings<'t> {
     }
 
     /// The second up to which it is counted how often a job starts, if that is told: the one up to which runs are listed, or that with which
-    /// seven days behind the start end.
+    /// seven days after the start end.
     pub fn asked_until(&self) -> Option<i64>
         ensures { result ≡ asked_until self.now }
     {

@@ -207,10 +207,10 @@ fn names_from(job: &Cron, shown: CivilDateTime, year: u32) -> bool
     requires { year ≤ last_year }
     ensures { result ≡ (int_le shown.date.year (pos year) && is_year_matching (meaning_of_job job.now) (pos year)) }
 {
-    shown.year() <= signed(year) && names(job, signed(year))
+    shown.year() <= signed_year(year) && names(job, signed_year(year))
 }
 
-fn signed(year: u32) -> i32
+fn signed_year(year: u32) -> i32
     requires { year ≤ last_year }
     ensures { result ≡ pos year }
 {

@@ -34,7 +34,7 @@ no_earlier_than_the_window = refl
 a_window_from_before_the_change : first_of (pos 1_267_891_200) ≡ pos 1_267_632_000
 a_window_from_before_the_change = refl
 
--- what is left is second 5 alone, behind second 0 of UTC
+-- what is left is second 5 alone, after second 0 of UTC
 abbrev five : Rest
 five = record { start = at_instant (clock (pos 0) []) (pos 0); left = λ i. i ≡ pos 5 }
 
@@ -45,7 +45,7 @@ none_asked_and_one_left = (refl, λ zero. (pos 5, refl, omega (arith, ints)))
 none_asked_and_none_left : IsEnd five (Some (pos 4)) (listings.Count 0) [] ends.Window
 none_asked_and_none_left = inl (λ i is le. let at : i ≡ pos 5 = is in absurd (omega (arith, ints, at, le)))
 
--- up to second 4 none is left out, and one is left behind it; up to second 5 that one is listed
+-- up to second 4 none is left out, and one is left after it; up to second 5 that one is listed
 up_to_the_second_before : IsEnd five None (listings.Until (pos 4)) [] ends.More
 up_to_the_second_before = (λ i is le. let at : i ≡ pos 5 = is in absurd (omega (arith, ints, at, le)), (pos 5, refl, tt, omega (arith, ints)))
 

@@ -39,9 +39,9 @@ use Rattle.crontab_runs.specs.Listing.{ListsStarts}
 use Rattle.crontab_runs.specs.Searches.{IsStartOf}
 use Rattle.crontab_runs.specs.Starts.{CronJob, cron_job}
 use Rattle.crontab_runs.proofs.StartBounds.{start_held}
-use Rattle.croncheck_runs.specs.Private.Ends.{bound, limit, earlier, full_end, end_before, end_of_years, end_of_starts, EndsBy}
+use Rattle.croncheck_runs.specs.Private.Ends.{bound, limit, earlier_of, full_end, end_before, end_of_years, end_of_starts, EndsBy}
 use Rattle.croncheck_runs.specs.Private.Listed.{once, Seen, run_seen, seen_on, TellsMadeUp}
-use Rattle.croncheck_runs.specs.Runs.{starts, MakesUp, seconds_of, Rest, runs_behind, runs_listed, starts_behind, starts_listed, GaveUntil, GaveYears, IsInWindow, LeavesOne, StartsWell, IsMore, IsEnd, IsAsked, IsListed}
+use Rattle.croncheck_runs.specs.Runs.{starts, MakesUp, seconds_of, Rest, runs_after, runs_listed, starts_after, starts_listed, GaveUntil, GaveYears, IsInWindow, LeavesOne, StartsWell, IsMore, IsEnd, IsAsked, IsListed}
 use Rattle.croncheck_runs.proofs.OwnRuns.{counts_after}
 
 -- the clock of a table is calm
@@ -56,25 +56,25 @@ searchable t h = record { starts = starts_calm t; held = table_holds t h.0 h.1 }
 pub not_so : (P : Type 0) (b : Bool) → IsTrue b ↔ P → b ≡ false → P → ⊥
 not_so P b iff isnt p = absurd (false≢true (sym isnt ∙ iff.1 p))
 
--- what doesn't come by a second lies behind it
-behind_by : (a b : ℤ) (t : Bool) → int_le a b ≡ t → (a ≤ℤ b → ⊥) → b <ℤ a
-behind_by a b true test isnt = absurd (isnt (le_of a b test))
-behind_by a b false test isnt = grind (arith, ints)
+-- what doesn't come by a second lies after it
+after_by : (a b : ℤ) (t : Bool) → int_le a b ≡ t → (a ≤ℤ b → ⊥) → b <ℤ a
+after_by a b true test isnt = absurd (isnt (le_of a b test))
+after_by a b false test isnt = grind (arith, ints)
 
-pub behind_of : (a b : ℤ) → (a ≤ℤ b → ⊥) → b <ℤ a
-behind_of a b isnt = behind_by a b (int_le a b) refl isnt
+pub after_of : (a b : ℤ) → (a ≤ℤ b → ⊥) → b <ℤ a
+after_of a b isnt = after_by a b (int_le a b) refl isnt
 
 -- the run past a bound is left, and each that is left before it is among the items
 pub next_past : (left after : ℤ → Type 0) (items : List ℤ) (i : ℤ) → All left (items ++ i ∷ [])
     → ((j : ℤ) → left j → Contains (items ++ i ∷ []) j ⊎ after j) → ((j : ℤ) → after j → All (λ x. Precedes Forward x j) (items ++ i ∷ []))
     → left i × ((j : ℤ) → left j → j <ℤ i → Contains items j)
-next_past left after items i counts either behind = (
+next_past left after items i counts either follows = (
   All-contains left (items ++ i ∷ []) i counts (Contains-push items i),
   λ j is before.
       elim (either j is) [
         | inl had ↦ elim (Contains-push_cases items i j had) [ inl earlier ↦ earlier | inr same ↦ absurd (omega (arith, ints, same, before)) ]
         | inr rest ↦
-            let past : i <ℤ j = All-contains (λ x. Precedes Forward x j) (items ++ i ∷ []) i (behind j rest) (Contains-push items i) in
+            let past : i <ℤ j = All-contains (λ x. Precedes Forward x j) (items ++ i ∷ []) i (follows j rest) (Contains-push items i) in
             absurd (omega (arith, ints, past, before))
       ],
 )
@@ -107,18 +107,18 @@ abbrev pub or_else : CronError → Option CronError → CronError
 or_else d None = d
 or_else d (Some e) = e
 
--- of a start, and what lies behind it
-module _ (rest : Rest) (start : ℤ) (behind : (i : ℤ) → rest.left i → start <ℤ i) where
+-- of a start, and what lies after it
+module _ (rest : Rest) (start : ℤ) (follows : (i : ℤ) → rest.left i → start <ℤ i) where
   none_by : (items : List ℤ) → All rest.left items → All (ComesBy Forward (Some start)) items → length items ≡ 0
   none_by [] counts by = refl
   none_by (x ∷ xs) counts by =
-      let after : start <ℤ x = behind x (counts 0 x (omega arith)) in
+      let after : start <ℤ x = follows x (counts 0 x (omega arith)) in
       let no_later : x ≤ℤ start = by 0 x (omega arith) in
       absurd (omega (arith, ints, after, no_later))
 
   -- what comes by the bound lies in the window, and by the second that was asked
   counted_in : (last : Option ℤ) (b : Bool) (i : ℤ) → rest.left i → ComesBy Forward (if b then Some start else last) i → IsInWindow last i
-  counted_in last true i left by = let after : start <ℤ i = behind i left in let no_later : i ≤ℤ start = by in absurd (omega (arith, ints, after, no_later))
+  counted_in last true i left by = let after : start <ℤ i = follows i left in let no_later : i ≤ℤ start = by in absurd (omega (arith, ints, after, no_later))
   counted_in None false i left by = tt
   counted_in (Some last) false i left by = by
 
@@ -127,7 +127,7 @@ module _ (rest : Rest) (start : ℤ) (behind : (i : ℤ) → rest.left i → sta
   in_window None (listings.Until until) i left by = tt
   in_window (Some last) (listings.Until until) i left by = by_last until last (int_lt last until) refl i by
 
-  asked_until : (last : Option ℤ) (until i : ℤ) → ComesBy Forward (Some (earlier until last)) i → i ≤ℤ until
+  asked_until : (last : Option ℤ) (until i : ℤ) → ComesBy Forward (Some (earlier_of until last)) i → i ≤ℤ until
   asked_until None until i by = by
   asked_until (Some last) until i by = by_until until last (int_lt last until) refl i by
 
@@ -157,7 +157,7 @@ module _ (rest : Rest) (start : ℤ) (behind : (i : ℤ) → rest.left i → sta
   full_is last (listings.Count count) items counts by each = full_count last count items (count == 0) refl counts by each
   full_is last (listings.Until until) items counts by each = each
 
-  -- a run past the bound: in the window, or behind it
+  -- a run past the bound: in the window, or after it
   module _ (items : List ℤ) (counts : All rest.left items) (i : ℤ) (left : rest.left i) (complete : (j : ℤ) → rest.left j → j <ℤ i → Contains items j) where
     gave_until : (until : ℤ) → until <ℤ i → GaveUntil rest.left until items
     gave_until until past = λ j is le. complete j is (omega (arith, ints, le, past))
@@ -167,7 +167,7 @@ module _ (rest : Rest) (start : ℤ) (behind : (i : ℤ) → rest.left i → sta
 
     by_window : (last : ℤ) (until : ℤ) (b : Bool) → int_lt last until ≡ b → (i ≤ℤ (if b then last else until) → ⊥) → i ≤ℤ last → until <ℤ i
     by_window last until true test past within = absurd (past within)
-    by_window last until false test past within = behind_of i until past
+    by_window last until false test past within = after_of i until past
 
     more_count : (last : Option ℤ) (count : ℕ) (b : Bool) → (count == 0) ≡ b → All (ComesBy Forward (if b then Some start else last)) items
         → (ComesBy Forward (if b then Some start else last) i → ⊥) → ((ComesBy Forward last i → ⊥) → ⊥) → IsInWindow last i
@@ -180,7 +180,7 @@ module _ (rest : Rest) (start : ℤ) (behind : (i : ℤ) → rest.left i → sta
 
     past_in : (last : ℤ) (listing : Listing) (b : Bool) → int_lt last i ≡ b → All (ComesBy Forward (bound start (Some last) listing)) items
         → (ComesBy Forward (bound start (Some last) listing) i → ⊥) → IsEnd rest (Some last) listing items (if b then ends.Window else ends.More)
-    past_in last listing true test by past = let behind_last : last <ℤ i = grind (arith, ints) in inl (gave_until last behind_last)
+    past_in last listing true test by past = let after_last : last <ℤ i = grind (arith, ints) in inl (gave_until last after_last)
     past_in last (listings.Count count) false test by past =
         let within : i ≤ℤ last = grind (arith, ints) in
         more_count (Some last) count (count == 0) refl by past (λ isnt. isnt within) within
@@ -191,7 +191,7 @@ module _ (rest : Rest) (start : ℤ) (behind : (i : ℤ) → rest.left i → sta
     past_is : (last : Option ℤ) (listing : Listing) → All (ComesBy Forward (bound start last listing)) items
         → (ComesBy Forward (bound start last listing) i → ⊥) → IsEnd rest last listing items (end_before i last)
     past_is None (listings.Count count) by past = more_count None count (count == 0) refl by past (λ isnt. isnt tt) tt
-    past_is None (listings.Until until) by past = more_until None until tt (behind_of i until past)
+    past_is None (listings.Until until) by past = more_until None until tt (after_of i until past)
     past_is (Some last) listing by past = past_in last listing (int_lt last i) refl by past
 
   years_are : (last : Option ℤ) (listing : Listing) (items : List ℤ) → GaveYears rest items → IsEnd rest last listing items (end_of_years last)
@@ -236,14 +236,14 @@ on_seconds table (s ∷ starts) = ap (λ (is : List ℤ). s.second ∷ is) (on_s
 -- ---- of one pattern
 
 module _ (m : Meaning) (start : TableTime) where
-  left_behind : (i : ℤ) → IsLeft (starts m start) i → start.second <ℤ i
-  left_behind i left = counts_after (job_at (starts m start)) start.second i left
+  left_after : (i : ℤ) → IsLeft (starts m start) i → start.second <ℤ i
+  left_after i left = counts_after (job_at (starts m start)) start.second i left
 
   stops_is : (new : Standing) (until : Option ℤ) (most : ℕ) (items : List TableTime) (fault : Option CronError) (ending : ListingEnd)
-      → ListsUntil (starts m start) new until most items ending → Stops (runs_behind m start) until most (instants table_moment items) fault ending
+      → ListsUntil (starts m start) new until most items ending → Stops (runs_after m start) until most (instants table_moment items) fault ending
   stops_is new until most items fault endings.Full l = l.ended
   stops_is new until most items fault (endings.Past i) l =
-      let next = next_past (IsLeft (starts m start)) (IsLeft new) (instants table_moment items) i l.rest.counts l.rest.either l.rest.behind in
+      let next = next_past (IsLeft (starts m start)) (IsLeft new) (instants table_moment items) i l.rest.counts l.rest.either l.rest.later in
       (next.0, l.ended, next.1)
   stops_is new until most items fault endings.Over l = l.ended.0
   stops_is new until most items fault endings.Refused l = λ well. absurd (l.ended.0 (searchable start well))
@@ -252,7 +252,7 @@ module _ (m : Meaning) (start : TableTime) where
       → r.items.items ≡ map once times → ListsUntil (starts m start) new (bound start.second last listing) (limit listing) times ending
       → EndsBy listing last ending fault r.end → IsListed (runs_listed m start) last listing r
   is_listed new last listing times r fault ending made l is =
-      let rest = runs_behind m start in
+      let rest = runs_after m start in
       let items = instants table_moment times in
       let same : items ≡ seconds_of r.items.items = sym (ap seconds_of made ∙ once_seconds times) in
       let within : length items ≤ limit listing = omega (arith, length-map times (λ (t : TableTime). (table_moment t).instant), l.most) in
@@ -260,12 +260,12 @@ module _ (m : Meaning) (start : TableTime) where
         begins = subst (λ (is : List ℤ). BeginsWhere Forward rest.left is) same l.begins;
         times = subst (λ (runs : List Run). All (λ run. run.count ≡ 1) runs) (sym made) (All-map (λ (run : Run). run.count ≡ 1) once times (λ k d inside. refl));
         made_up = subst (λ (runs : List Run). All (λ run. run.made_up ≡ None) runs) (sym made) (All-map (λ (run : Run). run.made_up ≡ None) once times (λ k d inside. refl));
-        asked = subst (λ (is : List ℤ). IsAsked listing is) same (is_asked rest start.second left_behind last listing items l.begins.counts l.by within);
+        asked = subst (λ (is : List ℤ). IsAsked listing is) same (is_asked rest start.second left_after last listing items l.begins.counts l.by within);
         on_clock = subst (λ (runs : List Run). All (λ run. IsWholeIn (table_moment start).zone (table_moment run.time)) runs) (sym made)
             (All-map (λ (run : Run). IsWholeIn (table_moment start).zone (table_moment run.time)) once times l.whole);
-        in_window = subst (λ (is : List ℤ). All (IsInWindow last) is) same (all_in_window rest start.second left_behind last listing items l.begins.counts l.by);
+        in_window = subst (λ (is : List ℤ). All (IsInWindow last) is) same (all_in_window rest start.second left_after last listing items l.begins.counts l.by);
         end = subst (λ (is : List ℤ). IsEnd rest last listing is r.end) same
-            (end_is rest start.second left_behind last listing items fault ending r.end (record {
+            (end_is rest start.second left_after last listing items fault ending r.end (record {
               counts = l.begins.counts;
               by = l.by;
               within = within;
@@ -304,7 +304,7 @@ ends_by listing last starts_ends.Over end is = is
 
 module _ (job : CronJob) (start : TableTime) where
   abbrev left : ℤ → Type 0
-  left = (starts_behind job start).left
+  left = (starts_after job start).left
 
   start_left : (starts : List ℤ) (i : ℤ) → BeginsWhere Forward left (starts ++ i ∷ []) → left i × ((j : ℤ) → left j → j <ℤ i → Contains starts j)
   start_left starts i begins = (
@@ -317,7 +317,7 @@ module _ (job : CronJob) (start : TableTime) where
   )
 
   starts_stop : (until : Option ℤ) (most : ℕ) (starts : List Start) (ending : StartsEnd) → ListsStarts job (table_moment start) until most starts ending
-      → Stops (starts_behind job start) until most (start_seconds starts) None (ending_of ending)
+      → Stops (starts_after job start) until most (start_seconds starts) None (ending_of ending)
   starts_stop until most starts starts_ends.Full l = length-map starts (λ (s : Start). s.second) ∙ l.ended
   starts_stop until most starts (starts_ends.Past next) l =
       let is = start_left (start_seconds starts) next.second l.ended.2 in
@@ -333,14 +333,14 @@ module _ (job : CronJob) (start : TableTime) where
       → ListsStarts job (table_moment start) (bound start.second last listing) (limit listing) starts ending
       → r.end ≡ end_of_starts listing last ending → IsListed (starts_listed job start) last listing r
   starts_listed_is last listing starts r ending made made_up l is =
-      let rest = starts_behind job start in
+      let rest = starts_after job start in
       let items = start_seconds starts in
       let same : items ≡ seconds_of r.items.items =
       sym (sym (run_seconds r.items.items) ∙ ap (map (λ (v : Seen). v.start.second)) made ∙ on_seconds start.table.now starts) in
       let within : length items ≤ limit listing = omega (arith, length-map starts (λ (s : Start). s.second), l.most) in
       let by : All (ComesBy Forward (bound start.second last listing)) items =
       All-map (ComesBy Forward (bound start.second last listing)) (λ (s : Start). s.second) starts l.by in
-      let behind : (i : ℤ) → rest.left i → start.second <ℤ i = λ i is_left. is_left.0 in
+      let follows : (i : ℤ) → rest.left i → start.second <ℤ i = λ i is_left. is_left.0 in
       let here : All IsStartHere (map run_seen r.items.items) =
       subst (λ (vs : List Seen). All IsStartHere vs) (sym made) (All-map IsStartHere (seen_on start.table.now) starts (λ k d inside. (l.each k d inside, refl))) in
       let each : All (λ (run : Run). IsStartHere (run_seen run)) r.items.items = all_of_map IsStartHere run_seen r.items.items here in
@@ -350,11 +350,11 @@ module _ (job : CronJob) (start : TableTime) where
         begins = subst (λ (is : List ℤ). BeginsWhere Forward rest.left is) same l.begins;
         times = λ k d inside. (each k d inside).0;
         made_up = λ k d inside. told_here k d inside;
-        asked = subst (λ (is : List ℤ). IsAsked listing is) same (is_asked rest start.second behind last listing items l.begins.counts by within);
+        asked = subst (λ (is : List ℤ). IsAsked listing is) same (is_asked rest start.second follows last listing items l.begins.counts by within);
         on_clock = λ k d inside. record { zone = ap table_zone (each k d inside).1; whole = refl };
-        in_window = subst (λ (is : List ℤ). All (IsInWindow last) is) same (all_in_window rest start.second behind last listing items l.begins.counts by);
+        in_window = subst (λ (is : List ℤ). All (IsInWindow last) is) same (all_in_window rest start.second follows last listing items l.begins.counts by);
         end = subst (λ (is : List ℤ). IsEnd rest last listing is r.end) same
-            (end_is rest start.second behind last listing items None (ending_of ending) r.end (record {
+            (end_is rest start.second follows last listing items None (ending_of ending) r.end (record {
               counts = l.begins.counts;
               by = by;
               within = within;

@@ -23,7 +23,7 @@ use Rattle.croner.proofs.zone.Walks.{is_run}
 use Rattle.croncheck_runs.specs.Clock.{last_second}
 use Rattle.croncheck_runs.specs.Runs.{starts}
 
--- a second behind one well in a window is well in it too, up to its last
+-- a second after one well in a window is well in it too, up to its last
 pub well_after : (tz : TimeZone) (first last s i : ℤ) → IsWellIn tz first last s → s <ℤ i → i ≤ℤ last → IsWellIn tz first last i
 well_after tz first last s i well after within =
     (elim well.0 [ inl far ↦ inl (omega (arith, ints, far, after)) | inr day ↦ inr (day.0, omega (arith, ints, day.1, after)) ], within)
@@ -31,7 +31,7 @@ well_after tz first last s i well after within =
 pub well_after_le : (tz : TimeZone) (first last s i until : ℤ) → IsWellIn tz first last s → s <ℤ i → i ≤ℤ until → until ≤ℤ last → IsWellIn tz first last i
 well_after_le tz first last s i until well after le by = well_after tz first last s i well after (omega (arith, ints, le, by))
 
--- what counts lies behind the start
+-- what counts lies after the start
 pub counts_after : (job : Job) (s i : ℤ) → Counts Forward false job s i → s <ℤ i
 counts_after job s i counts = elim counts [ inl own ↦ own.0 | inr at ↦ absurd (false≢true at.0) ]
 

@@ -19,7 +19,7 @@ counts_up_to job s i counts = elim counts [
   | inr at ↦ omega (arith, ints, at.1)
 ]
 
--- a second no later than one well in a window, behind the margin of its first, is well in it too
+-- a second no later than one well in a window, after the margin of its first, is well in it too
 pub well_here : (tz : TimeZone) (first last s i : ℤ) → IsWellIn tz first last s → i ≤ℤ s → (first +ℤ pos margin) ≤ℤ i → IsWellIn tz first last i
 well_here tz first last s i well le followed = (inl followed, omega (arith, ints, le, well.1))
 

@@ -32,7 +32,7 @@ use Rattle.croncheck_runs.specs.Private.EndsBefore.{end_of_starts, EndsBefore}
 use Rattle.croncheck_runs.specs.Private.Listed.{once, Seen, run_seen, seen_on, TellsMadeUp}
 use Rattle.croncheck_runs.specs.Runs.{MakesUp, seconds_of, Rest, StartsWell}
 use Rattle.croncheck_runs.specs.Previous.{ends_at, runs_up_to, starts_up_to, GaveFrom, GaveYearsBefore, IsEndBefore, IsListedBefore}
-use Rattle.croncheck_runs.proofs.Listings.{searchable, behind_of, or_else, all_of_map, once_seconds, start_seconds, run_seconds, on_seconds, made_up_on, ending_of}
+use Rattle.croncheck_runs.proofs.Listings.{searchable, after_of, or_else, all_of_map, once_seconds, start_seconds, run_seconds, on_seconds, made_up_on, ending_of}
 
 -- what comes by a second backward lies no earlier than it, and the other way round
 no_earlier : (from i : ℤ) → ComesBy Backward (Some from) i → from ≤ℤ i
@@ -47,7 +47,7 @@ all_from from items by = λ k d inside. no_earlier from (get_or items k d) (by k
 -- where a run lies before a second, each that is left from that second on is among the items that come before it in the listing
 from_past : (left after : ℤ → Type 0) (items : List ℤ) (i from : ℤ) → ((j : ℤ) → left j → Contains (items ++ i ∷ []) j ⊎ after j)
     → ((j : ℤ) → after j → All (λ x. Precedes Backward x j) (items ++ i ∷ [])) → (ComesBy Backward (Some from) i → ⊥) → GaveFrom left from items
-from_past left after items i from either behind past = λ j is ge.
+from_past left after items i from either follows past = λ j is ge.
     elim (either j is) [
       | inl had ↦
           elim (Contains-push_cases items i j had) [
@@ -55,7 +55,7 @@ from_past left after items i from either behind past = λ j is ge.
             | inr same ↦ absurd (past (comes_by from i (omega (arith, ints, same, ge))))
           ]
       | inr rest ↦
-          let before : Precedes Backward i j = All-contains (λ x. Precedes Backward x j) (items ++ i ∷ []) i (behind j rest) (Contains-push items i) in
+          let before : Precedes Backward i j = All-contains (λ x. Precedes Backward x j) (items ++ i ∷ []) i (follows j rest) (Contains-push items i) in
           absurd (past (comes_by from i (omega (arith, ints, before, ge))))
     ]
 
@@ -63,7 +63,7 @@ from_past left after items i from either behind past = λ j is ge.
 from_next : (left : ℤ → Type 0) (items : List ℤ) (i from : ℤ) → BeginsWhere Backward left (items ++ i ∷ []) → (ComesBy Backward (Some from) i → ⊥)
     → GaveFrom left from items
 from_next left items i from begins past = λ j is ge.
-    let before : i <ℤ from = behind_of from i (λ le. past (comes_by from i le)) in
+    let before : i <ℤ from = after_of from i (λ le. past (comes_by from i le)) in
     let reaches : Reaches Backward j i = omega (arith, ints, before, ge) in
     elim (Contains-push_cases items i j (begins.complete j i is (Contains-push items i) reaches)) [
       | inl earlier ↦ earlier
@@ -103,7 +103,7 @@ module _ (m : Meaning) (asked : Previous) where
       → Stops rest asked.from asked.count (instants table_moment items) fault ending
   stops_is new items fault endings.Full l = l.ended
   stops_is new items fault (endings.Past i) l =
-      from_past (IsLeft (ends_at m asked.start)) (IsLeft new) (instants table_moment items) i asked.from l.rest.either l.rest.behind l.ended
+      from_past (IsLeft (ends_at m asked.start)) (IsLeft new) (instants table_moment items) i asked.from l.rest.either l.rest.later l.ended
   stops_is new items fault endings.Over l = l.ended.0
   stops_is new items fault endings.Refused l = λ well. absurd (l.ended.0 (searchable asked.start well))
 

@@ -19,7 +19,7 @@ seconds_before = 259_200
 abbrev pub first_of : ℤ → ℤ
 first_of start = start -ℤ pos seconds_before
 
--- it ends at 5001-01-01T23:59:59 UTC: a clock that is a day behind UTC at most shows no second of year 5000 behind it
+-- it ends at 5001-01-01T23:59:59 UTC: a clock that is a day behind UTC at most shows no second of year 5000 after it
 abbrev pub last_second : ℤ
 last_second = pos 95_649_206_399
 
@@ -38,7 +38,7 @@ IsHeldSecond i = (first_timestamp ≤ℤ i) × (i ≤ℤ last_timestamp)
 abbrev pub two_days_before : ℤ → ℤ → ℤ
 two_days_before first at = if int_lt (at -ℤ pos 1 -ℤ pos apart_limit) first then first else at -ℤ pos 1 -ℤ pos apart_limit
 
--- how many seconds a zone's clock has skipped in a window, in the years that a pattern can name, with the change at a second behind it
+-- how many seconds a zone's clock has skipped in a window, in the years that a pattern can name, with the change at a second after it
 abbrev pub skipped_with : TimeZone → ℤ → ℤ → ℕ
 skipped_with tz first at =
     met_gaps (ahead_at tz first) (window_changes tz first (at -ℤ pos 1)) + gap_at (ahead_at tz (at -ℤ pos 1)) (at, ahead_at tz at)
@@ -96,40 +96,40 @@ IsHeldStart start = (first_timestamp ≤ℤ first_of start) × (start ≤ℤ las
 abbrev pub IsFollowed : TimeZone → ℤ → Type 0
 IsFollowed tz start = IsHeldStart start × IsCalmWindow tz (first_of start) start
 
--- the start three days behind a second, whose window begins there
-abbrev pub start_behind : ℤ → ℤ
-start_behind second = second +ℤ pos seconds_before
+-- the start three days after a second, whose window begins there
+abbrev pub start_after : ℤ → ℤ
+start_after second = second +ℤ pos seconds_before
 
 -- it is found exactly where its window is calm up to it
 abbrev pub IsStartFrom : TimeZone → ℤ → Option ℤ → Type 0
-IsStartFrom tz second None = ¬ (IsFollowed tz (start_behind second))
-IsStartFrom tz second (Some start) = IsFollowed tz start × (start ≡ start_behind second)
+IsStartFrom tz second None = ¬ (IsFollowed tz (start_after second))
+IsStartFrom tz second (Some start) = IsFollowed tz start × (start ≡ start_after second)
 
--- behind a stop its window of three days stops again
-abbrev pub IsStopBehind : TimeZone → ℤ → ℤ → Type 0
-IsStopBehind tz stop again = (stop <ℤ again) × IsStop tz stop (start_behind stop) again
+-- after a stop its window of three days stops again
+abbrev pub IsStopAfter : TimeZone → ℤ → ℤ → Type 0
+IsStopAfter tz stop again = (stop <ℤ again) × IsStop tz stop (start_after stop) again
 
--- the stop behind another one, if there is one from which a start may be followed
+-- the stop after another one, if there is one from which a start may be followed
 abbrev pub IsNextStop : TimeZone → ℤ → Option ℤ → Type 0
-IsNextStop tz stop None = (again : ℤ) → IsStopBehind tz stop again → ¬ (IsFollowed tz (start_behind again))
-IsNextStop tz stop (Some again) = IsStopBehind tz stop again
+IsNextStop tz stop None = (again : ℤ) → IsStopAfter tz stop again → ¬ (IsFollowed tz (start_after again))
+IsNextStop tz stop (Some again) = IsStopAfter tz stop again
 
--- the start behind a stop from which on runs are listed: three days behind it, if that one is followed, and else three days behind the stop in
+-- the start after a stop from which on runs are listed: three days after it, if that one is followed, and else three days after the stop in
 -- these days; there is none where neither is
 abbrev pub IsNext : TimeZone → ℤ → Option ℤ → Type 0
-IsNext tz stop None = ¬ (IsFollowed tz (start_behind stop)) × ((again : ℤ) → IsStopBehind tz stop again → ¬ (IsFollowed tz (start_behind again)))
+IsNext tz stop None = ¬ (IsFollowed tz (start_after stop)) × ((again : ℤ) → IsStopAfter tz stop again → ¬ (IsFollowed tz (start_after again)))
 IsNext tz stop (Some start) =
     IsFollowed tz start
-    × ((start ≡ start_behind stop)
-    ⊎ (¬ (IsFollowed tz (start_behind stop)) × ((again : ℤ) × IsStopBehind tz stop again × (start ≡ start_behind again))))
+    × ((start ≡ start_after stop)
+    ⊎ (¬ (IsFollowed tz (start_after stop)) × ((again : ℤ) × IsStopAfter tz stop again × (start ≡ start_after again))))
 
--- what is said where a window stops at its start or before it: where, and the start behind it; or memory is wanting
+-- what is said where a window stops at its start or before it: where, and the start after it; or memory is wanting
 abbrev pub IsRefusalBy : TimeZone → Stop → NoClock → Type 0
 IsRefusalBy tz stop (refusals.Change s next) = (s ≡ stop) × IsNext tz stop.second next
 IsRefusalBy tz stop refusals.Outside = ⊥
 IsRefusalBy tz stop refusals.OutOfMemory = Unit {0}
 
--- why there is no clock from a start on: its window stops at it or before it, and the start behind that stop is named; it lies outside; or
+-- why there is no clock from a start on: its window stops at it or before it, and the start after that stop is named; it lies outside; or
 -- memory is wanting
 abbrev pub IsNoClock : TimeZone → ℤ → NoClock → Type 0
 IsNoClock tz start (refusals.Change s next) = IsStopOf tz (first_of start) s × (s.second ≤ℤ start) × IsNext tz s.second next

@@ -22,7 +22,7 @@ number_text n =
 abbrev pub unit_text : ℕ → List ℕ → List ℕ
 unit_text n name = number_text n ++ (codes " " ++ (name ++ (if n == 1 then [] else codes "s")))
 
--- the same behind a larger unit: nothing where there are none
+-- the same after a larger unit: nothing where there are none
 abbrev pub rest_text : ℕ → List ℕ → List ℕ
 rest_text n name = if n == 0 then [] else codes " " ++ unit_text n name
 

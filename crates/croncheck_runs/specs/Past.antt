@@ -19,7 +19,7 @@ pub record IsFollowedFrom (tz : TimeZone) (last first : ℤ) : Type 0 where
   pub calm : IsCalmWindow tz first last
   pub farthest : (first ≡ reach_of last) ⊎ ¬ (IsCalmWindow tz (first -ℤ pos 1) last)
 
--- the clock shows what the zone shows from its first second to this one, and is followed from there. From the margin behind its first second
+-- the clock shows what the zone shows from its first second to this one, and is followed from there. From the margin after its first second
 -- on, runs on the clock are those of the zone
 pub record IsPastClock (tz : TimeZone) (last : ℤ) (c : PastClock) : Type 0 where
   pub clock : IsClockOf tz c.first last (table_zone c.table)

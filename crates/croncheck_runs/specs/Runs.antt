@@ -24,7 +24,7 @@ use Rattle.crontab_runs.specs.MadeUp.{MakesUpForNone, MakesUpFrom}
 use Rattle.crontab_runs.specs.Searches.{IsStartOf}
 use Rattle.crontab_runs.specs.Starts.{CronJob, cron_job, Starts}
 
--- where a listing begins: behind the start
+-- where a listing begins: after the start
 abbrev pub starts : Meaning → TableTime → Standing
 starts m start = new_standing m (table_moment start) false Forward
 
@@ -38,18 +38,18 @@ most_runs = 100_000
 
 -- ---- what is listed
 
--- the instants that are left behind a start
+-- the instants that are left after a start
 pub record Rest : Type 1 where
   pub start : Moment
   pub left : ℤ → Type 0
 
 -- the runs of a pattern
-abbrev pub runs_behind : Meaning → TableTime → Rest
-runs_behind m start = record { start = table_moment start; left = IsLeft (starts m start) }
+abbrev pub runs_after : Meaning → TableTime → Rest
+runs_after m start = record { start = table_moment start; left = IsLeft (starts m start) }
 
 -- the instants at which cron starts a job
-abbrev pub starts_behind : CronJob → TableTime → Rest
-starts_behind job start = record { start = table_moment start; left = CountsFrom Forward (Starts job (table_moment start).zone) start.second }
+abbrev pub starts_after : CronJob → TableTime → Rest
+starts_after job start = record { start = table_moment start; left = CountsFrom Forward (Starts job (table_moment start).zone) start.second }
 
 -- for which minute cron starts a job at an instant first, where the clock shows a later one
 abbrev pub MakesUp : CronJob → Zone → ℤ → Option ℤ → Type 0
@@ -64,12 +64,12 @@ pub record Listed : Type 1 where
 
 -- of a pattern its runs, each once
 abbrev pub runs_listed : Meaning → TableTime → Listed
-runs_listed m start = record { rest = runs_behind m start; times = λ i n. n ≡ 1; makes_up = λ i made_up. made_up ≡ None }
+runs_listed m start = record { rest = runs_after m start; times = λ i n. n ≡ 1; makes_up = λ i made_up. made_up ≡ None }
 
 -- of a crontab's job what cron starts, each once or more
 abbrev pub starts_listed : CronJob → TableTime → Listed
 starts_listed job start = record {
-  rest = starts_behind job start;
+  rest = starts_after job start;
   times = λ i n. IsStartOf job (table_moment start).zone (record { second = i; count = n });
   makes_up = MakesUp job (table_moment start).zone;
 }
@@ -96,9 +96,9 @@ IsInWindow (Some last) i = i ≤ℤ last
 abbrev pub LeavesOne : (ℤ → Type 0) → Option ℤ → Type 0
 LeavesOne left last = (i : ℤ) × left i × IsInWindow last i
 
--- one is left in the window behind a second
-abbrev pub LeavesBehind : (ℤ → Type 0) → Option ℤ → ℤ → Type 0
-LeavesBehind left last until = (i : ℤ) × left i × IsInWindow last i × (until <ℤ i)
+-- one is left in the window after a second
+abbrev pub LeavesAfter : (ℤ → Type 0) → Option ℤ → ℤ → Type 0
+LeavesAfter left last until = (i : ℤ) × left i × IsInWindow last i × (until <ℤ i)
 
 -- the start's clock shows a year from -9997 to 9997, so that no search from it fails
 abbrev pub StartsWell : Rest → Type 0
@@ -106,11 +106,11 @@ StartsWell rest = IsStart (reading rest.start)
 
 -- ---- how a listing ends
 
--- more may come: there are as many items as were asked, and of none one is left; or one is left behind the second, and none is left out up
+-- more may come: there are as many items as were asked, and of none one is left; or one is left after the second, and none is left out up
 -- to it
 abbrev pub IsMore : (ℤ → Type 0) → Option ℤ → Listing → List ℤ → Type 0
 IsMore left last (listings.Count count) items = (length items ≡ count) × (count ≡ 0 → LeavesOne left last)
-IsMore left last (listings.Until until) items = GaveUntil left until items × LeavesBehind left last until
+IsMore left last (listings.Until until) items = GaveUntil left until items × LeavesAfter left last until
 
 -- none is left in the years that are searched, of a clock whose window doesn't end before they do
 abbrev pub IsOver : Rest → Option ℤ → List ℤ → Type 0
@@ -135,7 +135,7 @@ IsEnd rest last listing items ends.Cut = IsCut listing items
 IsEnd rest last listing items ends.Window = IsAtWindowEnd rest last items
 IsEnd rest last listing items (ends.Failed e) = ¬ (StartsWell rest)
 
--- no run is left behind the listing
+-- no run is left after the listing
 abbrev pub is_over : End → Bool
 is_over ends.More = false
 is_over ends.Over = true
@@ -151,12 +151,12 @@ is_at_end_of_window ends.Cut = false
 is_at_end_of_window ends.Window = true
 is_at_end_of_window (ends.Failed e) = false
 
--- there are no more items than were asked, or, up to a second, than are listed at most, and none behind that
+-- there are no more items than were asked, or, up to a second, than are listed at most, and none after that
 abbrev pub IsAsked : Listing → List ℤ → Type 0
 IsAsked (listings.Count count) items = length items ≤ count
 IsAsked (listings.Until until) items = All (λ i. i ≤ℤ until) items × (length items ≤ most_runs)
 
--- the listing behind a start, on a clock whose window ends there or not before the years that are searched: the items are the first that are
+-- the listing after a start, on a clock whose window ends there or not before the years that are searched: the items are the first that are
 -- left, in order, none left out, each so many times, with what is made up for; they lie on the start's clock and in its window; and the end
 -- is so
 pub record IsListed (what : Listed) (last : Option ℤ) (listing : Listing) (r : Runs) : Type 0 where

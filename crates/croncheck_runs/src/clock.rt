@@ -9,7 +9,7 @@ ghost use Rattle.croner_base.specs.TableZone.{table_zone};
 ghost use Rattle.croner_base.specs.ZoneTable.{IsWindow, IsCalmWindow, ahead_at, window_changes};
 ghost use Rattle.croner_base.specs.ZonedZone.{first_timestamp};
 ghost use Rattle.croner.specs.laws.Zones.{IsClockOf, IsWellIn};
-ghost use Rattle.croncheck_runs.specs.Clock.{last_second, first_of, last_of, last_before, two_days_before, start_behind, IsHeldSecond, IsStop, HasStop, IsStopOf, IsReason, IsReasonBy, IsFollowed, IsStartFrom, IsNextStop, IsNext, IsRefusalBy, IsNoClock};
+ghost use Rattle.croncheck_runs.specs.Clock.{last_second, first_of, last_of, last_before, two_days_before, start_after, IsHeldSecond, IsStop, HasStop, IsStopOf, IsReason, IsReasonBy, IsFollowed, IsStartFrom, IsNextStop, IsNext, IsRefusalBy, IsNoClock};
 
 mod skipped;
 pub mod stop;
@@ -29,7 +29,7 @@ pub(crate) const SECONDS_BEFORE: i64 = 259_200;
 /// The first start whose window `jiff` holds.
 pub(crate) const FIRST_START: i64 = -377_704_764_001;
 
-/// The last second of the window: 5001-01-01T23:59:59 UTC. A clock that is a day behind UTC at most shows none of year 5000 behind it.
+/// The last second of the window: 5001-01-01T23:59:59 UTC. A clock that is a day behind UTC at most shows none of year 5000 after it.
 pub const LAST_SECOND: i64 = 95_649_206_399;
 
 const NANOS_PER_SECOND: i128 = 1_000_000_000;
@@ -49,7 +49,7 @@ const SECONDS_APART: i64 = 172_800;
 /// They go over so many skipped seconds in all, at most.
 const MOST_SKIPPED: u64 = 20_000_000;
 
-/// The clock of a zone from three days before a start to the end of 5001-01-01 in UTC, behind which it has no run; or to the second before
+/// The clock of a zone from three days before a start to the end of 5001-01-01 in UTC, after which it has no run; or to the second before
 /// its stop.
 ///
 /// In this window it shows what the zone shows. The start lies well in it, so that a listing from there on is the zone's own.
@@ -71,7 +71,7 @@ pub enum NoClock {
     /// The window of the start ends before it, or at it.
     Change {
         stop: Stop,
-        /// A start behind the stop that has a clock, where one was found.
+        /// A start after the stop that has a clock, where one was found.
         next: Option<i64>,
     },
     /// The start lies outside -377,704,764,001 to 95,649,206,399.
@@ -168,27 +168,27 @@ fn clock_up_to_stop(
 fn refusal_by(alloc: Global, zone: &TimeZone<'_>, stop: Stop) -> NoClock
     ensures { IsRefusalBy (plain_zone zone.now) stop result }
 {
-    match start_behind(alloc, zone, stop.second) {
+    match start_after(alloc, zone, stop.second) {
         Ok(next) => NoClock::Change { stop, next },
         Err(_) => NoClock::OutOfMemory,
     }
 }
 
-// A start that has a clock: three days behind a stop, or behind the next stop in these days.
-fn start_behind(alloc: Global, zone: &TimeZone<'_>, stop: i64) -> Result<Option<i64>, AllocError>
+// A start that has a clock: three days after a stop, or after the next stop in these days.
+fn start_after(alloc: Global, zone: &TimeZone<'_>, stop: i64) -> Result<Option<i64>, AllocError>
     requires { IsHeldSecond stop }
     ensures { IfOk result (IsNext (plain_zone zone.now) stop) }
 {
     if let Some(start) = start_from(alloc, zone, stop)? {
         return Ok(Some(start));
     }
-    match stop_behind(alloc, zone, stop)? {
+    match stop_after(alloc, zone, stop)? {
         Some(again) => start_from(alloc, zone, again),
         None => Ok(None),
     }
 }
 
-// The start three days behind a second, if its window, which begins there, is calm up to it.
+// The start three days after a second, if its window, which begins there, is calm up to it.
 fn start_from(alloc: Global, zone: &TimeZone<'_>, first: i64) -> Result<Option<i64>, AllocError>
     requires { IsHeldSecond first }
     ensures { IfOk result (IsStartFrom (plain_zone zone.now) first) }
@@ -203,10 +203,10 @@ fn start_from(alloc: Global, zone: &TimeZone<'_>, first: i64) -> Result<Option<i
     }
 }
 
-// Where the three days behind a second, which aren't calm, stop to be it, if they do so behind it.
-fn stop_behind(alloc: Global, zone: &TimeZone<'_>, first: i64) -> Result<Option<i64>, AllocError>
+// Where the three days after a second, which aren't calm, stop to be it, if they do so after it.
+fn stop_after(alloc: Global, zone: &TimeZone<'_>, first: i64) -> Result<Option<i64>, AllocError>
     requires held { IsHeldSecond first }
-    requires not_followed { ¬ (IsFollowed (plain_zone zone.now) (start_behind first)) }
+    requires not_followed { ¬ (IsFollowed (plain_zone zone.now) (start_after first)) }
     ensures { IfOk result (IsNextStop (plain_zone zone.now) first) }
 {
     if LAST_SECOND - SECONDS_BEFORE < first {
@@ -216,7 +216,7 @@ fn stop_behind(alloc: Global, zone: &TimeZone<'_>, first: i64) -> Result<Option<
         return Ok(None);
     }
     let seconds = first_stop(alloc, zone, first, SECONDS_BEFORE as u64)?;
-    Ok(Some(second_behind(first, seconds)))
+    Ok(Some(second_after(first, seconds)))
 }
 
 // Where a window up to the last second stops, and why.
@@ -332,15 +332,15 @@ fn stop_second_of(alloc: Global, zone: &TimeZone<'_>, first: i64) -> Result<i64,
     requires not_calm { ¬ (IsCalmWindow (plain_zone zone.now) first last_second) }
     ensures { IfOk result (IsStop (plain_zone zone.now) first last_second) }
 {
-    let behind = seconds_to_last(first);
+    let to_last = seconds_to_last(first);
     if !is_calm(alloc, zone, first, 0)? {
         return Ok(first);
     }
-    let seconds = first_stop(alloc, zone, first, behind)?;
-    Ok(second_behind(first, seconds))
+    let seconds = first_stop(alloc, zone, first, to_last)?;
+    Ok(second_after(first, seconds))
 }
 
-// How many seconds the last one lies behind a first one.
+// How many seconds the last one lies after a first one.
 fn seconds_to_last(first: i64) -> u64
     requires { IsWindow first last_second }
     ensures { last_second ≡ first +ℤ pos result }
@@ -348,41 +348,41 @@ fn seconds_to_last(first: i64) -> u64
     (LAST_SECOND - first) as u64
 }
 
-// The second so many behind a first one.
-fn second_behind(first: i64, seconds: u64) -> i64
+// The second so many after a first one.
+fn second_after(first: i64, seconds: u64) -> i64
     requires { IsWindow first (first +ℤ pos seconds) }
     ensures { result ≡ first +ℤ pos seconds }
 {
     first + seconds as i64
 }
 
-// Whether the window up to so many seconds behind a first one is calm.
+// Whether the window up to so many seconds after a first one is calm.
 fn is_calm(alloc: Global, zone: &TimeZone<'_>, first: i64, seconds: u64) -> Result<bool, AllocError>
     requires { IsWindow first (first +ℤ pos seconds) }
     ensures calm { IfOk result (λ b. OnTrue b (IsCalmWindow (plain_zone zone.now) first (first +ℤ pos seconds))) }
     ensures not_calm { IfOk result (λ b. OnFalse b (¬ (IsCalmWindow (plain_zone zone.now) first (first +ℤ pos seconds)))) }
 {
-    match ClockTable::of_zone(alloc, zone, first, second_behind(first, seconds)) {
+    match ClockTable::of_zone(alloc, zone, first, second_after(first, seconds)) {
         Ok(_) => Ok(true),
         Err(CronError::InvalidTime) => Ok(false),
         Err(_) => Err(AllocError),
     }
 }
 
-// How many seconds behind a first one, which is calm by itself, a window is calm no more that isn't so many seconds behind it.
+// How many seconds after a first one, which is calm by itself, a window is calm no more that isn't so many seconds after it.
 fn first_stop(
     alloc: Global,
     zone: &TimeZone<'_>,
     first: i64,
-    behind: u64,
+    to_last: u64,
 ) -> Result<u64, AllocError>
-    requires window { IsWindow first (first +ℤ pos behind) }
+    requires window { IsWindow first (first +ℤ pos to_last) }
     requires calm { IsCalmWindow (plain_zone zone.now) first (first +ℤ pos 0) }
-    requires not_calm { ¬ (IsCalmWindow (plain_zone zone.now) first (first +ℤ pos behind)) }
-    ensures { IfOk result (λ n. IsStop (plain_zone zone.now) first (first +ℤ pos behind) (first +ℤ pos n)) }
+    requires not_calm { ¬ (IsCalmWindow (plain_zone zone.now) first (first +ℤ pos to_last)) }
+    ensures { IfOk result (λ n. IsStop (plain_zone zone.now) first (first +ℤ pos to_last) (first +ℤ pos n)) }
 {
     let mut calm: u64 = 0;
-    let mut gap = behind;
+    let mut gap = to_last;
     while 1 < gap {
         let half = gap / 2;
         if is_calm(alloc, zone, first, calm + half)? {

@@ -16,9 +16,9 @@ impl fmt::Display for Length {
     fn fmt<W: fmt::Write>(&self, f: &mut fmt::Formatter<W>) -> fmt::Result {
         let all = self.seconds;
         let (hours, minutes, seconds) = (
-            so_many(all / 3_600, "hour"),
-            so_many(all / 60 % 60, "minute"),
-            so_many(all % 60, "second"),
+            units_of(all / 3_600, "hour"),
+            units_of(all / 60 % 60, "minute"),
+            units_of(all % 60, "second"),
         );
         if 3_600 <= all {
             let (minutes, seconds) = (Rest { units: minutes }, Rest { units: seconds });
@@ -39,7 +39,7 @@ struct Units {
     name: &'static str,
 }
 
-fn so_many(count: u64, name: &'static str) -> Units
+fn units_of(count: u64, name: &'static str) -> Units
     ensures count { result.count ≡ count }
     ensures name { result.name.now ≡ name.now }
 {
@@ -59,7 +59,7 @@ impl fmt::Display for Units {
     }
 }
 
-// The same behind a larger unit: a blank, and so many; nothing where there are none.
+// The same after a larger unit: a blank, and so many; nothing where there are none.
 #[derive(Clone, Copy)]
 struct Rest {
     units: Units,

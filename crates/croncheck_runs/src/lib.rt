@@ -1,4 +1,4 @@
-//! When a job runs by the clock of a zone: the clock as far as it is followed, and the runs behind a start and before it.
+//! When a job runs by the clock of a zone: the clock as far as it is followed, and the runs after a start and before it.
 #![tactic(auto)]
 
 pub mod clock;

@@ -16,7 +16,7 @@ use croner_base::limits::FIRST_SEARCHED_SECOND;
 use jiff::tz::TimeZone;
 use std::alloc::{AllocError, Global};
 
-/// From so many seconds behind the first one of a window on, runs on its clock are those of the zone.
+/// From so many seconds after the first one of a window on, runs on its clock are those of the zone.
 const MARGIN: i64 = 180_000;
 
 /// The clock of a zone up to a second, from the beginning of year 1 on, or from where it is calm up to that second.

@@ -15,7 +15,7 @@ ghost use Rattle.croncheck_runs.specs.Previous.{ends_at, runs_up_to, starts_up_t
 ghost use Rattle.croncheck_runs.specs.Private.EndsBefore.{end_of_years, end_of_starts, EndsBefore};
 
 use crate::past::PastClock;
-use crate::runs::{End, Runner, Runs, each_once, failed_end, runs_at};
+use crate::runs::{End, Runner, Runs, failed_end, runs_at, runs_once};
 use croner::errors::CronError;
 use croner::laws::listing::{ListingEnd, next_runs_until};
 use croner::laws::zones::listing_of_a_window;
@@ -96,7 +96,7 @@ fn runs_back<'t>(
     ensures err { IfErr result (λ e. e ≡ CronError.OutOfMemory) }
 {
     let (times, ending) = next_runs_until(alloc, iterator, Some(asked.from), asked.count)?;
-    let items = each_once(alloc, times.as_slice())?;
+    let items = runs_once(alloc, times.as_slice())?;
     let end = end_before(asked.is_whole, ending, iterator.fault())?;
     Ok(Runs { items, end })
 }
@@ -159,7 +159,7 @@ fn end_of_years(is_whole: bool) -> End
 
 /// What is listed on the clock up to a start is listed in the zone itself, as far as the clock is followed.
 ///
-/// For every pattern, from a start well in the window, and with the margin behind the window's first second:
+/// For every pattern, from a start well in the window, and with the margin after the window's first second:
 ///
 /// - items that begin the listing on the clock, none before that margin, begin that of the zone;
 /// - where none is left out on the clock from a second on that lies no earlier, none of the zone's runs is;

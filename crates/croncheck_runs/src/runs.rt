@@ -12,7 +12,7 @@ ghost use Rattle.croner.specs.laws.Zones.{IsOnClockOf, in_zone};
 ghost use Rattle.croner.specs.search.Limit.{InSpan};
 ghost use Rattle.croner.specs.Views.{job_of};
 ghost use Rattle.crontab_runs.specs.Views.{cron_job_of};
-ghost use Rattle.croncheck_runs.specs.Private.Ends.{earlier, bound, limit, full_end, end_before, end_of_years, end_of_starts, EndsBy, IsFailedBy};
+ghost use Rattle.croncheck_runs.specs.Private.Ends.{earlier_of, bound, limit, full_end, end_before, end_of_years, end_of_starts, EndsBy, IsFailedBy};
 ghost use Rattle.croncheck_runs.specs.Private.Listed.{once, run_seen, seen_on, TellsMadeUp};
 ghost use Rattle.croncheck_runs.specs.Clock.{last_second};
 ghost use Rattle.croncheck_runs.specs.Runs.{is_over, is_at_end_of_window, starts, runs_listed, starts_listed, IsListed, GaveUntil};
@@ -63,13 +63,13 @@ pub enum Listing {
 
 /// How a listing ends.
 pub enum End {
-    /// As many as were asked were listed, and of none a run is left. Or all that come no later than a second, and a run is left behind it.
+    /// As many as were asked were listed, and of none a run is left. Or all that come no later than a second, and a run is left after it.
     More,
     /// No run is left in the years that are searched: every run of these was listed.
     Over,
     /// The most runs were listed, and more may come up to the second.
     Cut,
-    /// The clock's window ends: of its runs in the years that are searched each was listed, and more may come behind it.
+    /// The clock's window ends: of its runs in the years that are searched each was listed, and more may come after it.
     Window,
     /// A search was refused, though not by the end of the years.
     Failed(CronError),
@@ -115,12 +115,12 @@ impl End {
 pub struct Runs<'t> {
     /// The runs, on the clock of the start.
     pub items: Vec<Run<'t>>,
-    /// What is left behind them.
+    /// What is left after them.
     pub end: End,
 }
 
 /// The runs of a pattern after a start, which doesn't count itself: so many, or all up to a second. Where the window of the start's clock ends
-/// with a second, none behind that is listed.
+/// with a second, none after that is listed.
 ///
 /// It takes the room of as many runs as are asked, or of `MOST_RUNS` where all up to a second are. The only error is `OutOfMemory`. A search
 /// that is refused is the end of the listing.
@@ -152,13 +152,13 @@ fn runs_from<'t>(
     let until = bound_of(start.second(), last, listing);
     let most = limit_of(listing);
     let (times, ending) = next_runs_until(alloc, iterator, until, most)?;
-    let items = each_once(alloc, times.as_slice())?;
+    let items = runs_once(alloc, times.as_slice())?;
     let end = end_of(listing, last, ending, iterator.fault())?;
     Ok(Runs { items, end })
 }
 
 // Times as runs, each once.
-pub(crate) fn each_once<'t>(
+pub(crate) fn runs_once<'t>(
     alloc: Global,
     times: &[TableTime<'t>],
 ) -> Result<Vec<Run<'t>>, AllocError>
@@ -249,13 +249,13 @@ pub(crate) fn bound_of(start: i64, last: Option<i64>, listing: Listing) -> Optio
     match listing {
         Listing::Count(0) => Some(start),
         Listing::Count(_) => last,
-        Listing::Until(until) => Some(earlier(until, last)),
+        Listing::Until(until) => Some(earlier_of(until, last)),
     }
 }
 
 // The earlier of two seconds, of which the second one may be none.
-fn earlier(until: i64, last: Option<i64>) -> i64
-    ensures { result ≡ earlier until last }
+fn earlier_of(until: i64, last: Option<i64>) -> i64
+    ensures { result ≡ earlier_of until last }
 {
     match last {
         Some(last) if last < until => last,
@@ -312,7 +312,7 @@ fn end_before(run: i64, last: Option<i64>) -> End
     }
 }
 
-// How a listing ends with the years that are searched: more may come behind the end of a window.
+// How a listing ends with the years that are searched: more may come after the end of a window.
 fn end_of_years(last: Option<i64>) -> End
     ensures { result ≡ end_of_years last }
 {
@@ -340,11 +340,11 @@ pub(crate) fn failed_end(fault: Option<&CronError>) -> Result<End, CronError>
 ///
 /// For every pattern, from a start well in the window:
 ///
-/// - items that begin the listing on the clock, none behind the window's last second, begin that of the zone;
+/// - items that begin the listing on the clock, none after the window's last second, begin that of the zone;
 /// - where none is left out on the clock up to a second of the window, none of the zone's runs is;
 /// - where the items are all that is left on the clock in the years that are searched, each run of the zone is among them that
 ///   lies in the window and in these years;
-/// - no run on a clock lies behind the last second of a window that has no stop.
+/// - no run on a clock lies after the last second of a window that has no stop.
 pub fn runs_are_the_zones(clock: &Clock)
     ensures begins { (zone : TimeZone) (first last : ℤ) (m : Meaning) (start : TableTime) →
         IsOnClockOf zone first last (table_zone clock.now.table) (table_moment start) → (items : List ℤ) → BeginsRest (starts m start) items →

@@ -9,7 +9,7 @@ use Rattle.croner_base.specs.Zone.{reading}
 use Rattle.croncheck_report.specs.declared.settings.Tongue.{Tongue}
 use Rattle.croncheck_shown.specs.Shown.{offset_of, weekday_text, clock_text, IsClockTextIn}
 
--- the parts that were put behind a text are what is shown
+-- the parts that were put after a text are what is shown
 pub clock_said : (language : Tongue) (zone : TimeZone) (run : TableTime) (civil : CivilDateTime) (index : ℕ) (weekday old new : List ℕ) (ahead second : ℤ)
     → wall_second civil ≡ reading (table_moment run) → index ≡ weekday_of_second (reading (table_moment run)) → weekday ≡ weekday_text language index
     → ahead ≡ offset_of zone run.second → second ≡ run.second → new ≡ old ++ clock_text weekday civil ahead second

@@ -40,7 +40,7 @@ thursday_in_swedish = refl
 
 -- ---- the front of a text
 
--- a letter and a character of four bytes: up to its last byte, and behind it
+-- a letter and a character of four bytes: up to its last byte, and after it
 four_bytes : start_at 4 (97 ∷ 240 ∷ 159 ∷ 152 ∷ 128 ∷ []) ≡ 1
 four_bytes = refl
 

@@ -5,28 +5,28 @@ use Rattle.croncheck_findings.specs.declared.findings.Finding.{Finding}
 use Rattle.croncheck_output.specs.declared.look.Look.{Look}
 use Rattle.croncheck_report.specs.declared.report.Report.{Report}
 use Rattle.croncheck_findings.specs.Findings.{findings_seen, findings_of_line}
-use Rattle.croncheck_shown.specs.Reported.{said_below, below, AreLinesFound, IsTextOfFound, IsFinding}
+use Rattle.croncheck_shown.specs.Reported.{line_below, text_below, AreLinesFound, IsTextOfFound, IsFinding}
 use Rattle.croncheck_shown.specs.Shown.{place_text}
 
--- the first finding was put behind a text
-pub one_below : (look : Look) (old new said : List ℕ) (f : Finding) (rest found : List Finding) → new ≡ old ++ said → said ≡ said_below look f → found ≡ f ∷ rest
-    → new ++ below look rest ≡ old ++ below look found
-one_below look old new said f rest found new_is said_is is = rw (new_is, said_is, is) (append_assoc old (said_below look f) (below look rest))
+-- the first finding was put after a text
+pub one_below : (look : Look) (old new said : List ℕ) (f : Finding) (rest found : List Finding) → new ≡ old ++ said → said ≡ line_below look f → found ≡ f ∷ rest
+    → new ++ text_below look rest ≡ old ++ text_below look found
+one_below look old new said f rest found new_is said_is is = rw (new_is, said_is, is) (append_assoc old (line_below look f) (text_below look rest))
 
 -- none is left
-pub none_below : (look : Look) (done all : List ℕ) (found : List Finding) → length found ≡ 0 → done ++ below look found ≡ all → done ≡ all
+pub none_below : (look : Look) (done all : List ℕ) (found : List Finding) → length found ≡ 0 → done ++ text_below look found ≡ all → done ≡ all
 none_below look done all [] none h = sym (append-nil done) ∙ h
 none_below look done all (f ∷ fs) none h = absurd (omega (arith, none))
 
 -- the lines of a report
 pub lines_found : (look : Look) (file : List ℕ) (number : ℕ) (line : List ℕ) (report : Report) (head text : List ℕ) (found : List Finding)
-    → findings_seen found ≡ findings_of_line line report → text ≡ place_text file number ++ (head ++ (below look found ++ 10 ∷ []))
+    → findings_seen found ≡ findings_of_line line report → text ≡ place_text file number ++ (head ++ (text_below look found ++ 10 ∷ []))
     → AreLinesFound look file number line report text
 lines_found look file number line report head text found are is = (head, found, are, is)
 
 -- the lines of findings, of which there are some
 pub some_text : (look : Look) (file : List ℕ) (number : ℕ) (head text : List ℕ) (found : List Finding) → 0 < length found
-    → text ≡ place_text file number ++ (head ++ (below look found ++ 10 ∷ [])) → IsTextOfFound look file number found text
+    → text ≡ place_text file number ++ (head ++ (text_below look found ++ 10 ∷ [])) → IsTextOfFound look file number found text
 some_text look file number head text [] some is = absurd (omega (arith, some))
 some_text look file number head text (f ∷ fs) some is = (head, is)
 

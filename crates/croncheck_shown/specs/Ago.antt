@@ -10,11 +10,11 @@ abbrev pub ago_front : Tongue → List ℕ
 ago_front tongues.English = []
 ago_front tongues.Swedish = codes "f" ++ (o_with_dots ++ codes "r ")
 
--- the word behind it
-abbrev pub ago_behind : Tongue → List ℕ
-ago_behind tongues.English = codes " ago"
-ago_behind tongues.Swedish = codes " sedan"
+-- the word after it
+abbrev pub ago_end : Tongue → List ℕ
+ago_end tongues.English = codes " ago"
+ago_end tongues.Swedish = codes " sedan"
 
 -- how long ago it was: `11 h 20 min ago`
 abbrev pub ago_text : Tongue → ℕ → List ℕ
-ago_text language n = ago_front language ++ (lasting_text n ++ ago_behind language)
+ago_text language n = ago_front language ++ (lasting_text n ++ ago_end language)

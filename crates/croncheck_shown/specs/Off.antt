@@ -12,7 +12,7 @@ ahead_word tongues.Swedish = codes "om "
 abbrev pub count_text : ℕ → List ℕ → List ℕ
 count_text n unit = decimal n ++ (codes " " ++ unit)
 
--- the same behind a larger unit: nothing where there are none
+-- the same after a larger unit: nothing where there are none
 abbrev pub more_text : ℕ → List ℕ → List ℕ
 more_text n unit = if n == 0 then [] else codes " " ++ count_text n unit
 

@@ -9,7 +9,7 @@ use Rattle.croncheck_report.specs.declared.report.Report.{Report}
 use Rattle.croncheck_report.specs.declared.settings.Settings.{Settings}
 use Rattle.crontab.specs.Checked.{LineRead}
 use Rattle.croncheck_report.specs.FileSeen.{ending_of}
-use Rattle.croncheck_output.specs.Look.{broken, painted}
+use Rattle.croncheck_output.specs.Look.{broken_text, painted_text}
 use Rattle.croncheck_output.specs.Output.{Written, WritesApart}
 use Rattle.croncheck_shown.specs.Shown.{is_told, place_text}
 use Rattle.croncheck_reading.specs.Stand.{Stand}
@@ -20,34 +20,34 @@ abbrev pub field_front : Option (List ℕ) → List ℕ
 field_front None = []
 field_front (Some field) = field ++ codes ": "
 
--- what a warning or a note says, behind the word for which of them it is: its name, its field, if it is of one, and its text
+-- what a warning or a note says, after the word for which of them it is: its name, its field, if it is of one, and its text
 abbrev pub named_text : Finding → List ℕ
 named_text f = codes " " ++ (f.name.now ++ (codes ": " ++ (field_front (option_map (λ field. field.now) f.field) ++ string_bytes f.text)))
 
 -- a word in the colour of a finding, and what the finding says
-abbrev pub said_behind : Look → List ℕ → Finding → List ℕ
-said_behind look word f = painted look.has_color f.severity word ++ broken look.width (named_text f)
+abbrev pub text_after_word : Look → List ℕ → Finding → List ℕ
+text_after_word look word f = painted_text look.has_color f.severity word ++ broken_text look.width (named_text f)
 
 -- what is said of a finding that is this grave: of a refusal its text alone
 abbrev pub said_as : Look → Severity → Finding → List ℕ
-said_as look severities.Error f = painted look.has_color f.severity (broken look.width (string_bytes f.text))
-said_as look severities.Warning f = said_behind look (codes "warning:") f
-said_as look severities.Note f = said_behind look (codes "note:") f
+said_as look severities.Error f = painted_text look.has_color f.severity (broken_text look.width (string_bytes f.text))
+said_as look severities.Warning f = text_after_word look (codes "warning:") f
+said_as look severities.Note f = text_after_word look (codes "note:") f
 
 -- a finding, on lines of its own below the line that it is of
-abbrev pub said_below : Look → Finding → List ℕ
-said_below look f = codes "\n  " ++ said_as look f.severity f
+abbrev pub line_below : Look → Finding → List ℕ
+line_below look f = codes "\n  " ++ said_as look f.severity f
 
 -- findings, in order
-abbrev pub below : Look → List Finding → List ℕ
-below look [] = []
-below look (f ∷ fs) = said_below look f ++ below look fs
+abbrev pub text_below : Look → List Finding → List ℕ
+text_below look [] = []
+text_below look (f ∷ fs) = line_below look f ++ text_below look fs
 
 -- the text is lines: the first begins with the place of a line of a file, and all that is found of it stands last, in order
 abbrev pub AreLinesFound : Look → List ℕ → ℕ → List ℕ → Report → List ℕ → Type 0
 AreLinesFound look file number line report text =
     (head : List ℕ) × (found : List Finding) × (findings_seen found ≡ findings_of_line line report)
-    × (text ≡ place_text file number ++ (head ++ (below look found ++ 10 ∷ [])))
+    × (text ≡ place_text file number ++ (head ++ (text_below look found ++ 10 ∷ [])))
 
 -- the text of the report of a line of a file: nothing where there is nothing to tell
 pub record IsTextOf (look : Look) (file : List ℕ) (number : ℕ) (line : List ℕ) (report : Report) (text : List ℕ) : Type 0 where
@@ -72,7 +72,7 @@ Tells s old before y new after =
 -- the text of findings of a line of a file: nothing where there are none, and else lines that begin with its place
 abbrev pub IsTextOfFound : Look → List ℕ → ℕ → List Finding → List ℕ → Type 0
 IsTextOfFound look file number [] text = text ≡ []
-IsTextOfFound look file number (f ∷ fs) text = (head : List ℕ) × (text ≡ place_text file number ++ (head ++ (below look (f ∷ fs) ++ 10 ∷ [])))
+IsTextOfFound look file number (f ∷ fs) text = (head : List ℕ) × (text ≡ place_text file number ++ (head ++ (text_below look (f ∷ fs) ++ 10 ∷ [])))
 
 -- the text of all that is found of a line of a file
 abbrev pub IsFinding : Look → List ℕ → ℕ → List ℕ → Report → List ℕ → Type 0
@@ -92,4 +92,4 @@ TellsFound s old before y new after =
 
 -- a text of whole lines ends with these findings, as they stand below a line
 abbrev pub EndsWithFound : Look → List Found → List ℕ → Type 0
-EndsWithFound look seen text = (found : List Finding) × (front : List ℕ) × (findings_seen found ≡ seen) × (text ≡ front ++ (below look found ++ 10 ∷ []))
+EndsWithFound look seen text = (found : List Finding) × (front : List ℕ) × (findings_seen found ≡ seen) × (text ≡ front ++ (text_below look found ++ 10 ∷ []))

@@ -27,7 +27,7 @@ offset_of zone second = if is_timestamp_second second then ahead_at zone second 
 
 -- ---- the clock
 
--- the front of a weekday's name, by how many days it comes behind Sunday
+-- the front of a weekday's name, by how many days it comes after Sunday
 abbrev pub english_weekday : ℕ → List ℕ
 english_weekday n =
     if n == 0 then codes "Sun"
@@ -54,7 +54,7 @@ abbrev pub weekday_text : Tongue → ℕ → List ℕ
 weekday_text tongues.English n = english_weekday n
 weekday_text tongues.Swedish n = swedish_weekday n
 
--- seconds behind hours and minutes: nothing where there are none
+-- seconds after hours and minutes: nothing where there are none
 abbrev pub odd_seconds : ℕ → List ℕ
 odd_seconds n = if n == 0 then [] else 58 ∷ two_places n
 

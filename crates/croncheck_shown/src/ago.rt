@@ -1,6 +1,6 @@
 //! How long ago a run was.
 ghost use Rattle.std.specs.Prelude.{◌≡◌, Some};
-ghost use Rattle.croncheck_shown.specs.Ago.{ago_front, ago_behind, ago_text};
+ghost use Rattle.croncheck_shown.specs.Ago.{ago_front, ago_end, ago_text};
 
 use crate::off::Lasting;
 use croncheck_report::settings::Tongue;
@@ -18,11 +18,11 @@ impl fmt::Display for Ago {
     ghost output = { λ a. Some (ago_text a.language a.seconds) };
 
     fn fmt<W: fmt::Write>(&self, f: &mut fmt::Formatter<W>) -> fmt::Result {
-        let (front, behind) = (ago_front(self.language), ago_behind(self.language));
+        let (front, end) = (ago_front(self.language), ago_end(self.language));
         let lasting = Lasting {
             seconds: self.seconds,
         };
-        write!(f, "{front}{lasting}{behind}")
+        write!(f, "{front}{lasting}{end}")
     }
 }
 
@@ -35,8 +35,8 @@ fn ago_front(language: Tongue) -> &'static str
     }
 }
 
-fn ago_behind(language: Tongue) -> &'static str
-    ensures { result.now ≡ ago_behind language }
+fn ago_end(language: Tongue) -> &'static str
+    ensures { result.now ≡ ago_end language }
 {
     match language {
         Tongue::English => " ago",

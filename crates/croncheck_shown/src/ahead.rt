@@ -45,7 +45,7 @@ impl fmt::Display for ClockLength {
     }
 }
 
-// The seconds behind hours and minutes; nothing where there are none.
+// The seconds after hours and minutes; nothing where there are none.
 #[derive(Clone, Copy)]
 struct OddSeconds {
     seconds: u32,

@@ -48,13 +48,13 @@ impl fmt::Display for Lasting {
         if all < 60 {
             write!(f, "{all} s")
         } else if all < 3_600 {
-            let (minutes, rest) = (all / 60, so_many_more(all % 60, "s"));
+            let (minutes, rest) = (all / 60, more_units(all % 60, "s"));
             write!(f, "{minutes} min{rest}")
         } else if all < 86_400 {
-            let (hours, rest) = (all / 3_600, so_many_more(all / 60 % 60, "min"));
+            let (hours, rest) = (all / 3_600, more_units(all / 60 % 60, "min"));
             write!(f, "{hours} h{rest}")
         } else {
-            let (days, rest) = (all / 86_400, so_many_more(all / 3_600 % 24, "h"));
+            let (days, rest) = (all / 86_400, more_units(all / 3_600 % 24, "h"));
             write!(f, "{days} d{rest}")
         }
     }
@@ -67,7 +67,7 @@ struct More {
     unit: &'static str,
 }
 
-fn so_many_more(count: u64, unit: &'static str) -> More
+fn more_units(count: u64, unit: &'static str) -> More
     ensures count { result.count ≡ count }
     ensures unit { result.unit.now ≡ unit.now }
 {

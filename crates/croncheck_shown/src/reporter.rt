@@ -4,7 +4,7 @@ ghost use Rattle.croncheck_output.specs.Output.{written_of};
 ghost use Rattle.croncheck_shown.specs.Reported.{WritesReport, WritesEnding};
 ghost use Rattle.croncheck_reading.specs.Stand.{stand_of};
 
-use crate::shown::text_of;
+use crate::shown::report_text;
 use croncheck_output::output::Output;
 use croncheck_reading::form::Form;
 use croncheck_reading::progress::{Line, Progress, Terms};
@@ -64,7 +64,7 @@ pub fn write_report<W: Write>(
     ensures { OnOk result (WritesReport terms.now.settings.now.look place.entry.file.now place.entry.line line.now report.now (written_of W.contents output.old) (written_of W.contents output.new)) }
 {
     let look = terms.settings.look;
-    let text = text_of(terms.alloc, look, terms.shared, place, line, report)?;
+    let text = report_text(terms.alloc, look, terms.shared, place, line, report)?;
     output.write_apart(text.as_str())
 }
 

@@ -16,7 +16,7 @@ pub mod runs;
 
 use crate::ahead::Ahead;
 use crate::shown::changes::push_next_changes;
-use below::below;
+use below::text_below;
 use croncheck_findings::findings::findings_of;
 use croncheck_output::front::{COMMAND_BYTES, cut_at, push_front, push_left_out, push_spaced};
 use croncheck_output::look::Look;
@@ -39,7 +39,7 @@ const SHOWN_BYTES: usize = 72;
 /// How many of these stand in front of a fault, where the line begins before them.
 const BYTES_BEFORE: usize = 24;
 
-/// The bytes of that in front of what is shown, and behind it.
+/// The bytes of that in front of what is shown, and after it.
 const BOTH_LEFT_OUT: usize = 4;
 
 /// How many bytes of a line with a fault are shown at least, however narrow the lines are.
@@ -49,7 +49,7 @@ const LEAST_SHOWN: usize = 40;
 /// stands last.
 ///
 /// The line is given without its line feed. The error comes where memory is lacking.
-pub fn text_of(
+pub fn report_text(
     alloc: Global,
     look: Look,
     shared: &Shared<'_>,
@@ -83,7 +83,7 @@ fn told_text(
     let mut head = String::new(alloc);
     let column = place.as_str().width();
     push_report(alloc, look, &mut head, shared, column, line, report)?;
-    let below = below(alloc, look, found.as_slice())?;
+    let below = text_below(alloc, look, found.as_slice())?;
     format!(in alloc; "{place}{head}{below}\n")
 }
 
@@ -135,7 +135,7 @@ fn push_setting(text: &mut String, line: &[u8]) -> Result<(), AllocError> {
 
 // ---- a fault and its place
 
-// What is shown of a line: the bytes in front of a fault, those at fault, and those behind them.
+// What is shown of a line: the bytes in front of a fault, those at fault, and those after them.
 #[derive(Clone, Copy)]
 struct View<'l> {
     is_begun: bool,
@@ -158,13 +158,13 @@ impl<'l> View<'l> {
         let (piece, cut_off) = piece.split_at(cut_at(piece, left));
         let left = left.saturating_sub(piece.len());
         let left = if cut_off.is_empty() { left } else { 0 };
-        let (rest, behind) = rest.split_at(cut_at(rest, left));
+        let (rest, after) = rest.split_at(cut_at(rest, left));
         View {
             is_begun: 0 < front_at,
             front,
             piece,
             rest,
-            is_cut: !cut_off.is_empty() || !behind.is_empty(),
+            is_cut: !cut_off.is_empty() || !after.is_empty(),
         }
     }
 }
@@ -248,7 +248,7 @@ fn push_command(text: &mut String, command: &[u8]) -> Result<(), AllocError> {
     push_front(text, command, COMMAND_BYTES)
 }
 
-/// Puts what the zone's clock shows at a run behind a text, and its second. The weekday is in English.
+/// Puts after a text what the zone's clock shows at a run, and its second. The weekday is in English.
 pub fn push_clock(
     text: &mut String,
     shared: &Shared<'_>,

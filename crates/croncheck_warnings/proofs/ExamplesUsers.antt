@@ -19,8 +19,8 @@ a_front_of_a_name = refl
 a_name_and_more : has_user passwd (codes "root:x") ≡ false
 a_name_and_more = refl
 
-a_word_behind_the_first_colon : has_user passwd (codes "x") ≡ false
-a_word_behind_the_first_colon = refl
+a_word_after_the_first_colon : has_user passwd (codes "x") ≡ false
+a_word_after_the_first_colon = refl
 
 a_line_without_a_colon : has_user passwd (codes "mail") ≡ false
 a_line_without_a_colon = refl
@@ -56,6 +56,6 @@ the_end_of_a_name = refl
 the_begin_of_a_name : user_start (codes " 0 5 * * * root x y") (codes "x y") (Some (codes "root")) ≡ 11
 the_begin_of_a_name = refl
 
--- the command stands behind one blank, and may be empty
+-- the command stands after one blank, and may be empty
 no_command : user_end (codes "@daily root ") (codes "") ≡ 11
 no_command = refl

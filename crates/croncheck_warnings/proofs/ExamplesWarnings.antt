@@ -92,9 +92,9 @@ at_the_end_of_the_range : beyond fields.Minutes (codes "10-20/10 * * * *") ≡ f
 unfolding digits
 at_the_end_of_the_range = refl
 
-the_31st_behind_the_first : beyond fields.DayOfMonth (codes "0 0 */31 * *") ≡ true
+the_31st_after_the_first : beyond fields.DayOfMonth (codes "0 0 */31 * *") ≡ true
 unfolding digits
-the_31st_behind_the_first = refl
+the_31st_after_the_first = refl
 
 a_step_down : beyond fields.Minutes (codes "20-10/30 * * * *") ≡ false
 unfolding digits
@@ -292,21 +292,21 @@ weekdays_by_name = refl
 a_comment_is_no_field : looks_like_field (codes "#5 x") ≡ false
 a_comment_is_no_field = refl
 
--- the same behind five fields
+-- the same after five fields
 abbrev fielded_by : Option (List ℕ) → List ℕ → Subject
 fielded_by user command = record (job_by user command) { fields = Some (texts (codes "0 0 * * *")) }
 
 a_field_for_a_user : holds (fielded_by (Some (codes "*")) (codes "root x")) warnings.LooksLikeField ≡ true
 a_field_for_a_user = refl
 
-a_field_behind_a_user : holds (fielded_by (Some (codes "root")) (codes "5 x")) warnings.LooksLikeField ≡ false
-a_field_behind_a_user = refl
+a_field_after_a_user : holds (fielded_by (Some (codes "root")) (codes "5 x")) warnings.LooksLikeField ≡ false
+a_field_after_a_user = refl
 
 a_field_for_a_command : holds (fielded_by None (codes "5 x")) warnings.LooksLikeField ≡ true
 a_field_for_a_command = refl
 
-a_number_behind_a_nickname : holds (job_by None (codes "5 x")) warnings.LooksLikeField ≡ false
-a_number_behind_a_nickname = refl
+a_number_after_a_nickname : holds (job_by None (codes "5 x")) warnings.LooksLikeField ≡ false
+a_number_after_a_nickname = refl
 
 an_empty_command_is_no_field : looks_like_field [] ≡ false
 an_empty_command_is_no_field = refl
@@ -332,8 +332,8 @@ a_comment_for_a_user = refl
 a_user_and_a_command : holds (job_by (Some (codes "root")) (codes "x")) warnings.NoCommand ≡ false
 a_user_and_a_command = refl
 
-no_command_behind_a_user : holds (job_by (Some (codes "root")) []) warnings.NoCommand ≡ true
-no_command_behind_a_user = refl
+no_command_after_a_user : holds (job_by (Some (codes "root")) []) warnings.NoCommand ≡ true
+no_command_after_a_user = refl
 
 -- ---- the name of a user
 
@@ -356,8 +356,8 @@ a_known_user_in_front_of_no_path = refl
 an_unknown_user_in_front_of_a_path : holds (known_by None (codes "ww /bin/x")) warnings.User ≡ false
 an_unknown_user_in_front_of_a_path = refl
 
-a_path_behind_an_unknown_word : holds (job_by None (codes "www$ /bin/x")) warnings.User ≡ false
-a_path_behind_an_unknown_word = refl
+a_path_after_an_unknown_word : holds (job_by None (codes "www$ /bin/x")) warnings.User ≡ false
+a_path_after_an_unknown_word = refl
 
 a_known_user_with_a_sign : holds (known_by (Some (codes "www$")) (codes "x")) warnings.User ≡ false
 a_known_user_with_a_sign = refl
@@ -365,15 +365,15 @@ a_known_user_with_a_sign = refl
 an_unknown_user_with_a_sign : holds (job_by (Some (codes "www$")) (codes "x")) warnings.User ≡ true
 an_unknown_user_with_a_sign = refl
 
--- these times, and this command behind them
+-- these times, and this command after them
 abbrev timed_job : List ℕ → List ℕ → Subject
 timed_job schedule command = record (job_by None command) { fields = Some (texts schedule) }
 
 a_command_in_the_weekdays : holds (timed_job (codes "* * * * *x") []) (warnings.PassedOver fields.Weekday) ≡ false
 a_command_in_the_weekdays = refl
 
-more_behind_the_weekdays : holds (timed_job (codes "* * * * *x") (codes "y")) (warnings.PassedOver fields.Weekday) ≡ true
-more_behind_the_weekdays = refl
+more_after_the_weekdays : holds (timed_job (codes "* * * * *x") (codes "y")) (warnings.PassedOver fields.Weekday) ≡ true
+more_after_the_weekdays = refl
 
 hours_before_a_command_in_the_weekdays : holds (timed_job (codes "* *y * * *x") []) (warnings.PassedOver fields.Hours) ≡ true
 hours_before_a_command_in_the_weekdays = refl
@@ -405,11 +405,11 @@ root_runs_a_command_named_root = refl
 a_percent_sign : has_percent (codes "date +%F") ≡ true
 a_percent_sign = refl
 
-behind_a_backslash : has_percent (codes "date +" ++ (92 ∷ codes "%F")) ≡ false
-behind_a_backslash = refl
+after_a_backslash : has_percent (codes "date +" ++ (92 ∷ codes "%F")) ≡ false
+after_a_backslash = refl
 
-behind_two_backslashes : has_percent (92 ∷ 92 ∷ codes "%F") ≡ true
-behind_two_backslashes = refl
+after_two_backslashes : has_percent (92 ∷ 92 ∷ codes "%F") ≡ true
+after_two_backslashes = refl
 
 a_backslash_at_the_end : is_continued (codes "x " ++ (92 ∷ [])) ≡ true
 a_backslash_at_the_end = refl

@@ -7,7 +7,7 @@ use Rattle.std.specs.Io.BufRead.{ends_with_byte}
 abbrev pub is_control : ℕ → Bool
 is_control b = (nat_lt b 32 && not (b == 9)) || b == 127
 
--- what stands behind the byte E2 of such a character in UTF-8: U+200B, U+202A to U+202E, and U+2066 to U+2069
+-- what stands after the byte E2 of such a character in UTF-8: U+200B, U+202A to U+202E, and U+2066 to U+2069
 abbrev pub is_hiding : ℕ → ℕ → Bool
 is_hiding a b = (a == 128 && (b == 139 || (nat_le 170 b && nat_le b 174))) || (a == 129 && (nat_le 166 b && nat_le b 169))
 

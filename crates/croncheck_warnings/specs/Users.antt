@@ -3,12 +3,12 @@ use Rattle.std.specs.Prelude.{◌==◌, ◌&&◌, not, ℕ, ◌+◌, ◌-◌, Bo
 use Rattle.std.specs.List.{list_any, slice_split}
 use Rattle.std.specs.Str.{bytes_eq}
 use Rattle.crontab.specs.declared.bytes.Kind.TheVariants as kinds
-use Rattle.crontab.specs.Bytes.{front, behind, begins_with}
+use Rattle.crontab.specs.Bytes.{front, text_after, begins_with}
 use Rattle.croncheck_warnings.specs.declared.users.Users.{Users}
 
 -- a line is that of the user of this name, which stands in front of its first colon
 abbrev pub is_line_of : List ℕ → List ℕ → Bool
-is_line_of name line = bytes_eq (front (kinds.But 58) line) name && begins_with 58 (behind (kinds.But 58) line)
+is_line_of name line = bytes_eq (front (kinds.But 58) line) name && begins_with 58 (text_after (kinds.But 58) line)
 
 -- a text as /etc/passwd has a user of this name
 abbrev pub has_user : List ℕ → List ℕ → Bool
@@ -24,12 +24,12 @@ is_unknown None user = false
 is_unknown (Some text) None = false
 is_unknown (Some text) (Some name) = not (has_user text name)
 
--- a command begins with the name of a user of a text as /etc/passwd, and behind blanks a path follows
+-- a command begins with the name of a user of a text as /etc/passwd, and after blanks a path follows
 abbrev pub begins_with_user : List ℕ → List ℕ → Bool
 begins_with_user text command =
-    has_user text (front kinds.Word command) && begins_with 47 (behind kinds.Blank (behind kinds.Word command))
+    has_user text (front kinds.Word command) && begins_with 47 (text_after kinds.Blank (text_after kinds.Word command))
 
--- where the user's name ends in the line of a job: one blank and the command stand behind it
+-- where the user's name ends in the line of a job: one blank and the command stand after it
 abbrev pub user_end : List ℕ → List ℕ → ℕ
 user_end line command = length line - (length command + 1)
 

@@ -21,7 +21,7 @@ use Rattle.crontab.specs.declared.field.Place.{Place}
 use Rattle.crontab.specs.declared.field.Part.{Part}
 use Rattle.croncheck_warnings.specs.declared.warnings.OtherWarning.{OtherWarning}
 use Rattle.croncheck_warnings.specs.declared.warnings.OtherWarning.TheVariants as others
-use Rattle.crontab.specs.Bytes.{front, behind, begins_with}
+use Rattle.crontab.specs.Bytes.{front, text_after, begins_with}
 use Rattle.crontab.specs.Line.{Five, words_of, minute_place, hour_place, day_place, month_place, weekday_place}
 use Rattle.crontab.specs.List.{parts_of, names_nothing, is_uneven}
 use Rattle.crontab.specs.Notes.{has_passed_over as are_passed_over, has_large_number as is_large_in, has_other_name as is_named_otherwise, looks_like_weekdays}
@@ -210,7 +210,7 @@ by_day_alone m = with_star_day false m
 abbrev pub by_weekday_alone : Meaning → Meaning
 by_weekday_alone m = with_star_day true m
 
--- the month of a date that has this weekday, so many days behind a Sunday, with the weekday of its first
+-- the month of a date that has this weekday, so many days after a Sunday, with the weekday of its first
 pub record IsMonthOf (date : CivilDate) (weekday : ℕ) (m : Month) : Type 0 where
   pub year : m.year ≡ date.year
   pub month : m.month ≡ date.month
@@ -224,9 +224,9 @@ pub record NamesDates (m : Meaning) (d : Dates) : Type 0 where
 
 -- ---- the command
 
--- the command is spaces alone, or begins with `#` behind blanks, so that a shell takes it for a comment
+-- the command is spaces alone, or begins with `#` after blanks, so that a shell takes it for a comment
 abbrev pub has_no_command : List ℕ → Bool
-has_no_command command = length (behind kinds.Space command) == 0 || begins_with 35 (behind kinds.Blank command)
+has_no_command command = length (text_after kinds.Space command) == 0 || begins_with 35 (text_after kinds.Blank command)
 
 -- the text begins with a word that may be a field of weekdays, and with no comment
 abbrev pub looks_like_field : List ℕ → Bool
@@ -242,9 +242,9 @@ has_no_user_sign name = list_any is_no_user_sign name
 
 -- the command begins with `root` and a blank
 abbrev pub begins_with_root : List ℕ → Bool
-begins_with_root command = bytes_eq (front kinds.Word command) (codes "root") && nat_lt 0 (length (behind kinds.Word command))
+begins_with_root command = bytes_eq (front kinds.Word command) (codes "root") && nat_lt 0 (length (text_after kinds.Word command))
 
--- what was met of a command, byte by byte: a percent sign counts that stands behind no backslash, and a backslash takes in the byte behind it
+-- what was met of a command, byte by byte: a percent sign counts that stands after no backslash, and a backslash takes in the byte after it
 abbrev pub met_next : Met → ℕ → Met
 met_next met.Plain b = if b == 92 then met.Backslash else if b == 37 then met.Percent else met.Plain
 met_next met.Backslash b = met.Plain
@@ -281,13 +281,13 @@ last_line_taken = 10_003
 abbrev pub are_many_lines : ℕ → Bool
 are_many_lines lines = nat_lt most_lines lines
 
--- the line behind so many of it is the first that is too many
+-- the line after so many of it is the first that is too many
 abbrev pub is_first_too_many : ℕ → Bool
 is_first_too_many lines = lines == most_lines
 
--- the line of this number stands behind the last one of the system
-abbrev pub is_behind_last : ℕ → Bool
-is_behind_last number = nat_lt last_line_taken number
+-- the line of this number stands after the last one of the system
+abbrev pub is_after_last : ℕ → Bool
+is_after_last number = nat_lt last_line_taken number
 
 -- ---- the job
 
@@ -313,28 +313,28 @@ abbrev pub is_some_so : {X : Type 0} → (X → Bool) → Option X → Bool
 is_some_so test None = false
 is_some_so test (Some x) = test x
 
--- what stands behind a job's times: the user's name where the file names users, else the command
-abbrev pub behind_times : Subject → Option (List ℕ)
-behind_times s = option_or s.user s.command
+-- what stands after a job's times: the user's name where the file names users, else the command
+abbrev pub text_after_times : Subject → Option (List ℕ)
+text_after_times s = option_or s.user s.command
 
--- the field is that of weekdays, behind which the command stands
+-- the field is that of weekdays, after which the command stands
 abbrev pub is_last_field : PatternField → Bool
 is_last_field fields.Weekday = true
 is_last_field other = false
 
--- the command fell into this field: it is the last one, and nothing stands behind the times
+-- the command fell into this field: it is the last one, and nothing stands after the times
 abbrev pub has_command_within : Subject → PatternField → Bool
-has_command_within s field = is_last_field field && is_some_so (λ text. length text == 0) (behind_times s)
+has_command_within s field = is_last_field field && is_some_so (λ text. length text == 0) (text_after_times s)
 
--- a further word stands behind five fields, which may be a field
+-- a further word stands after five fields, which may be a field
 abbrev pub has_sixth_field : Subject → Bool
-has_sixth_field s = is_some s.fields && is_some_so looks_like_field (behind_times s)
+has_sixth_field s = is_some s.fields && is_some_so looks_like_field (text_after_times s)
 
 -- the word where the user stands is none, and no further field; where the users are known a job of such a word is refused
 abbrev pub has_no_user_word : Subject → Bool
 has_no_user_word s = not (is_some s.users) && (is_some_so has_no_user_sign s.user && not (has_sixth_field s))
 
--- a command begins with `root` and a blank, or with the name of a user who is known, and a path behind it
+-- a command begins with `root` and a blank, or with the name of a user who is known, and a path after it
 abbrev pub begins_with_name : Option (List ℕ) → List ℕ → Bool
 begins_with_name users command = begins_with_root command || is_some_so (λ text. begins_with_user text command) users
 
@@ -394,7 +394,7 @@ field_name fields.Month = codes "months"
 field_name fields.Weekday = codes "weekdays"
 field_name fields.Year = codes "years"
 
--- the warning stands at the job. `no-command`: the user's name begins with `#`, or there is no command. `looks-like-field`: what stands behind five fields
+-- the warning stands at the job. `no-command`: the user's name begins with `#`, or there is no command. `looks-like-field`: what stands after five fields
 -- begins with a word that may be a further one
 abbrev pub holds : Subject → Warning → Bool
 holds s warnings.EitherDay = is_some_so is_either_day s.meaning

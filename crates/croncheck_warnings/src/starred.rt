@@ -23,7 +23,7 @@ fn has_clock_star(times: &[u8]) -> bool
     begins_with(times, b'*') || begins_with(next(times), b'*')
 }
 
-// What stands behind the first word and the blanks after it.
+// What stands after the first word and the blanks after it.
 fn next(text: &[u8]) -> &[u8]
     ensures { result.now ≡ next text.now }
 {

@@ -33,11 +33,11 @@ fn has_user(text: &[u8], name: &[u8]) -> bool
 fn is_line_of(name: &[u8], line: &[u8]) -> bool
     ensures { result ≡ is_line_of name.now line.now }
 {
-    let (front, behind) = cut(line, Kind::But(b':'));
-    front == name && begins_with(behind, b':')
+    let (front, after) = cut(line, Kind::But(b':'));
+    front == name && begins_with(after, b':')
 }
 
-/// Whether a command begins with the name of a user who is known, and a path stands behind it.
+/// Whether a command begins with the name of a user who is known, and a path stands after it.
 pub fn begins_with_user(users: Users<'_>, command: &[u8]) -> bool
     ensures { result ≡ begins_with_user users.entry.text.now command.now }
 {
@@ -56,7 +56,7 @@ pub fn is_unknown(users: Option<Users<'_>>, user: Option<&[u8]>) -> bool
     }
 }
 
-/// Where a user's name ends in the line of a job with this command: the byte behind its last one.
+/// Where a user's name ends in the line of a job with this command: the byte after its last one.
 pub fn user_end(line: &[u8], command: &[u8]) -> usize
     ensures { result ≡ user_end line.now command.now }
 {

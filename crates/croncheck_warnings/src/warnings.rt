@@ -2,7 +2,7 @@
 ghost use Rattle.std.specs.Prelude.{◌≡◌, IfOk, IfErr, filter, length, ◌++◌, ◌&&◌, false, option_map};
 ghost use Rattle.croner.specs.Views.{job_of as meaning_of_job};
 ghost use Rattle.crontab.specs.Bytes.{begins_with};
-ghost use Rattle.croncheck_warnings.specs.Warnings.{is_either_day, is_whole_hour, has_short_months, has_uneven_step, has_step_beyond, has_hours_in_range, is_last_field, has_command_within, has_hidden_field, has_empty_items, has_no_command, looks_like_field, has_sixth_field, begins_with_name, has_no_user, has_percent, is_continued, has_carriage_return, are_many_lines, is_first_too_many, is_behind_last, is_some_so, behind_times, holds, all_warnings, fields_seen, subject_seen};
+ghost use Rattle.croncheck_warnings.specs.Warnings.{is_either_day, is_whole_hour, has_short_months, has_uneven_step, has_step_beyond, has_hours_in_range, is_last_field, has_command_within, has_hidden_field, has_empty_items, has_no_command, looks_like_field, has_sixth_field, begins_with_name, has_no_user, has_percent, is_continued, has_carriage_return, are_many_lines, is_first_too_many, is_after_last, is_some_so, text_after_times, holds, all_warnings, fields_seen, subject_seen};
 ghost use Rattle.croncheck_warnings.specs.Hidden.{has_hidden, has_hidden_within};
 ghost use Rattle.croncheck_warnings.specs.Users.{users_seen};
 ghost use Rattle.croncheck_warnings.specs.Warnings as Spec;
@@ -47,7 +47,7 @@ pub enum Warning {
     StepBeyond(PatternField),
     /// A range of the field runs down, so that it names nothing.
     RangeDown(PatternField),
-    /// Bytes of the field stand behind a part, and cron passes over them.
+    /// Bytes of the field stand after a part, and cron passes over them.
     PassedOver(PatternField),
     /// A number of the field is 2^32 or more, of which the rest after division by 2^32 counts.
     LargeNumber(PatternField),
@@ -61,7 +61,7 @@ pub enum Warning {
     Never,
     /// There is no command: it is spaces alone, or begins with `#`, as a comment does.
     NoCommand,
-    /// What stands behind five fields, a user's name or the command, begins with a word that may be one of weekdays.
+    /// What stands after five fields, a user's name or the command, begins with a word that may be one of weekdays.
     LooksLikeField,
     /// The word in the user's place is no user's name; or the command of a user's crontab begins with the name of one.
     User,
@@ -170,7 +170,7 @@ pub struct Subject<'s, 'j> {
     pub is_past: bool,
     /// Its times leave no run before year 5000.
     pub is_never: bool,
-    /// Its runs are listed up to the end of the clock's window, so that it isn't known which years and months they come in behind it.
+    /// Its runs are listed up to the end of the clock's window, so that it isn't known which years and months they come in after it.
     pub is_at_window_end: bool,
 }
 
@@ -378,11 +378,11 @@ fn is_last_field(field: PatternField) -> bool
     }
 }
 
-// Whether the command fell into a field: it is the last one, and nothing stands behind the times.
+// Whether the command fell into a field: it is the last one, and nothing stands after the times.
 fn has_command_within(subject: &Subject<'_, '_>, field: PatternField) -> bool
     ensures { result ≡ has_command_within (subject_seen subject.now) field }
 {
-    match behind_times(subject) {
+    match text_after_times(subject) {
         Some(text) => is_last_field(field) && text.is_empty(),
         None => false,
     }
@@ -397,9 +397,9 @@ fn has_empty_items(fields: &Option<Fields<'_>>) -> bool
     }
 }
 
-// What stands behind a job's times: the user's name where the file names users, else the command.
-fn behind_times<'s>(subject: &Subject<'s, '_>) -> Option<&'s [u8]>
-    ensures { option_map (λ t. t.now) result ≡ behind_times (subject_seen subject.now) }
+// What stands after a job's times: the user's name where the file names users, else the command.
+fn text_after_times<'s>(subject: &Subject<'s, '_>) -> Option<&'s [u8]>
+    ensures { option_map (λ t. t.now) result ≡ text_after_times (subject_seen subject.now) }
 {
     match subject.user {
         Some(user) => Some(user),
@@ -435,11 +435,11 @@ fn looks_like_field(text: Option<&[u8]>) -> bool
     }
 }
 
-// Whether a further word stands behind five fields, which may be a field.
+// Whether a further word stands after five fields, which may be a field.
 fn has_sixth_field(subject: &Subject<'_, '_>) -> bool
     ensures { result ≡ has_sixth_field (subject_seen subject.now) }
 {
-    subject.fields.is_some() && looks_like_field(behind_times(subject))
+    subject.fields.is_some() && looks_like_field(text_after_times(subject))
 }
 
 // Whether the word where the user stands is none, and no further field; or where no user stands the command begins with the name of one.
@@ -455,7 +455,7 @@ fn has_no_user(subject: &Subject<'_, '_>) -> bool
     }
 }
 
-// Whether a command begins with `root` and a blank, or with the name of a user who is known, and a path behind it.
+// Whether a command begins with `root` and a blank, or with the name of a user who is known, and a path after it.
 fn begins_with_name(users: Option<Users<'_>>, command: &[u8]) -> bool
     ensures { result ≡ begins_with_name (users_seen users.entry) command.now }
 {
@@ -536,16 +536,16 @@ pub fn are_many_lines(lines: u64) -> bool
     MOST_LINES < lines
 }
 
-/// Whether the line behind so many of a user's crontab is the first that is too many.
+/// Whether the line after so many of a user's crontab is the first that is too many.
 pub fn is_first_too_many(lines: u64) -> bool
     ensures { result ≡ is_first_too_many lines }
 {
     lines == MOST_LINES
 }
 
-/// Whether the line of a number stands behind the last one at which cron takes a job or a setting of a crontab of the system.
-pub fn is_behind_last(number: u64) -> bool
-    ensures { result ≡ is_behind_last number }
+/// Whether the line of a number stands after the last one at which cron takes a job or a setting of a crontab of the system.
+pub fn is_after_last(number: u64) -> bool
+    ensures { result ≡ is_after_last number }
 {
     LAST_LINE_TAKEN < number
 }

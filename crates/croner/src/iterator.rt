@@ -137,7 +137,7 @@ pub(crate) fn fault_of(refusal: CronError) -> Option<CronError>
 }
 
 // A copy of a fault, which has no message: it takes no memory.
-pub(crate) fn copied(fault: &Option<CronError>) -> Option<CronError>
+pub(crate) fn copy_of_fault(fault: &Option<CronError>) -> Option<CronError>
     requires { IsTrue (is_kept fault.now) }
     ensures { result ≡ fault.now }
 {
@@ -162,7 +162,7 @@ impl<T: CronDateTime> Clone for CronIterator<T> {
             is_first: self.is_first,
             inclusive: self.inclusive,
             direction: self.direction,
-            fault: copied(&self.fault),
+            fault: copy_of_fault(&self.fault),
         })
     }
 }

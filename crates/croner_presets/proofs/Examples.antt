@@ -5,7 +5,7 @@ use Rattle.croner_presets.specs.declared.difference.Difference.TheVariants as it
 use Rattle.croner_presets.specs.declared.part.Form.TheVariants as forms
 use Rattle.croner_presets.specs.declared.preset.Preset.TheVariants as presets
 use Rattle.croner_presets.specs.Parts.{is_of, has_part}
-use Rattle.croner_presets.specs.Presets.{looked_for}
+use Rattle.croner_presets.specs.Presets.{differences_looked_for}
 use Rattle.croner_presets.specs.Differences.{holds, is_frequent_by}
 
 -- ---- parts
@@ -78,17 +78,17 @@ hours_that_are_apart = refl
 -- ---- texts
 
 of_kubernetes : filter (holds presets.Kubernetes (codes "0 9 * * 7") (codes "0" ∷ codes "9" ∷ codes "*" ∷ codes "*" ∷ codes "7" ∷ []))
-    (looked_for presets.Kubernetes) ≡ its.SundayAsSeven ∷ []
+    (differences_looked_for presets.Kubernetes) ≡ its.SundayAsSeven ∷ []
 of_kubernetes = refl
 
-every_five_minutes : filter (holds presets.Kubernetes (codes "@every 5m") (codes "@EVERY" ∷ codes "5M" ∷ [])) (looked_for presets.Kubernetes)
+every_five_minutes : filter (holds presets.Kubernetes (codes "@every 5m") (codes "@EVERY" ∷ codes "5M" ∷ [])) (differences_looked_for presets.Kubernetes)
     ≡ its.Every ∷ []
 every_five_minutes = refl
 
 of_quartz : filter (holds presets.Quartz (codes "0 0 0 L-3 * *") (codes "0" ∷ codes "0" ∷ codes "0" ∷ codes "L-3" ∷ codes "*" ∷ codes "*" ∷ []))
-    (looked_for presets.Quartz) ≡ its.NotOneOpenDay ∷ its.DaysBeforeLast ∷ []
+    (differences_looked_for presets.Quartz) ≡ its.NotOneOpenDay ∷ its.DaysBeforeLast ∷ []
 of_quartz = refl
 
 of_spring : filter (holds presets.Spring (codes "0 0 0 */2 * *") (codes "0" ∷ codes "0" ∷ codes "0" ∷ codes "*/2" ∷ codes "*" ∷ codes "*" ∷ []))
-    (looked_for presets.Spring) ≡ its.DayStepFromZero ∷ []
+    (differences_looked_for presets.Spring) ≡ its.DayStepFromZero ∷ []
 of_spring = refl

@@ -13,12 +13,12 @@ use Rattle.croner.specs.Views.{job_of}
 use Rattle.croner.specs.parser.Words.{AreWords}
 use Rattle.croner_presets.specs.declared.difference.Difference.{Difference}
 use Rattle.croner_presets.specs.declared.preset.Preset.{Preset}
-use Rattle.croner_presets.specs.Presets.{looked_for}
+use Rattle.croner_presets.specs.Presets.{differences_looked_for}
 use Rattle.croner_presets.specs.Differences.{is_frequent, means_frequent, holds, AreDifferences}
 
 -- of the words of the text in capitals those that hold were found
 pub all_told : {X : Type 0} (items : X → List Difference) (r : Result X CronError) (preset : Preset) (text raised : List ℕ) (words : List (List ℕ)) (looked : List Difference)
-    → raised ≡ str_to_ascii_uppercase text → AreWords raised words → looked ≡ looked_for preset → IfOk r (λ x. items x ≡ filter (holds preset text words) looked)
+    → raised ≡ str_to_ascii_uppercase text → AreWords raised words → looked ≡ differences_looked_for preset → IfOk r (λ x. items x ≡ filter (holds preset text words) looked)
     → IfOk r (λ x. AreDifferences preset text (items x))
 all_told items (Ok x) preset text raised words looked is of list all =
     (words, subst (λ t. AreWords t words) is of, all ∙ ap (λ l. filter (holds preset text words) l) list)

@@ -14,7 +14,7 @@ use Rattle.croner_presets.specs.declared.difference.Difference.TheVariants as it
 use Rattle.croner_presets.specs.declared.part.Form.{Form}
 use Rattle.croner_presets.specs.declared.part.Form.TheVariants as forms
 use Rattle.croner_presets.specs.Parts.{begins_with, begins_with_text, is_capital, is_digit_at, has_part}
-use Rattle.croner_presets.specs.Presets.{settings_of, looked_for}
+use Rattle.croner_presets.specs.Presets.{settings_of, differences_looked_for}
 
 -- ---- the text, whatever its fields
 
@@ -242,4 +242,4 @@ holds preset text words other = of_fields (λ t. holds_of_fields t other) (field
 -- these are the differences of a text, in order, and there is no other
 abbrev pub AreDifferences : Preset → List ℕ → List Difference → Type 0
 AreDifferences preset text found =
-    (words : List (List ℕ)) × AreWords (str_to_ascii_uppercase text) words × (found ≡ filter (holds preset text words) (looked_for preset))
+    (words : List (List ℕ)) × AreWords (str_to_ascii_uppercase text) words × (found ≡ filter (holds preset text words) (differences_looked_for preset))

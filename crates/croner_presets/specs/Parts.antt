@@ -12,8 +12,8 @@ use Rattle.croner_presets.specs.declared.part.Form.TheVariants as forms
 -- ---- its pieces
 
 -- what stands in front of the step
-abbrev pub front : List ℕ → List ℕ
-front part = before_first (λ b. b == slash) part
+abbrev pub front_of_step : List ℕ → List ℕ
+front_of_step part = before_first (λ b. b == slash) part
 
 -- it has a step
 abbrev pub has_step : List ℕ → Bool
@@ -25,15 +25,15 @@ step_of part = after_first (λ b. b == slash) part
 
 -- in front of the step stands a dash
 abbrev pub is_range : List ℕ → Bool
-is_range part = contains_byte dash (front part)
+is_range part = contains_byte dash (front_of_step part)
 
 -- the one side of a range, or all that stands in front of the step
-abbrev pub low : List ℕ → List ℕ
-low part = before_first (λ b. b == dash) (front part)
+abbrev pub low_side : List ℕ → List ℕ
+low_side part = before_first (λ b. b == dash) (front_of_step part)
 
 -- the other side of a range
-abbrev pub high : List ℕ → List ℕ
-high part = after_first (λ b. b == dash) (front part)
+abbrev pub high_side : List ℕ → List ℕ
+high_side part = after_first (λ b. b == dash) (front_of_step part)
 
 -- the first byte of a text
 abbrev pub begins_with : ℕ → List ℕ → Bool
@@ -104,17 +104,17 @@ begins_with_name part = list_any (λ name. begins_with_text name part) months ||
 
 -- a side of a part that isn't starred passes a test
 abbrev pub has_side : (List ℕ → Bool) → List ℕ → Bool
-has_side test part = not (is_starred part) && (test (low part) || (is_range part && test (high part)))
+has_side test part = not (is_starred part) && (test (low_side part) || (is_range part && test (high_side part)))
 
 -- ---- the forms
 
 -- a range to the name of Sunday
 abbrev pub ends_at_sunday : List ℕ → Bool
-ends_at_sunday part = is_range part && is_sunday (high part)
+ends_at_sunday part = is_range part && is_sunday (high_side part)
 
 -- it begins at Sunday, by its name or as 0
 abbrev pub starts_at_sunday : List ℕ → Bool
-starts_at_sunday part = is_sunday (low part) || is_number 0 (low part)
+starts_at_sunday part = is_sunday (low_side part) || is_number 0 (low_side part)
 
 -- the first number is greater than the second
 abbrev pub descends : Option ℕ → Option ℕ → Bool
@@ -124,12 +124,12 @@ descends a b = false
 -- two numbers that go down, or two names
 abbrev pub goes_down : List ℕ → Bool
 goes_down part = is_range part
-    && (descends (number_of (low part)) (number_of (high part)) || descends (name_of (low part)) (name_of (high part)))
+    && (descends (number_of (low_side part)) (number_of (high_side part)) || descends (name_of (low_side part)) (name_of (high_side part)))
 
 -- a range from a name to a number, or from a number to a name
 abbrev pub is_mixed : List ℕ → Bool
 is_mixed part = is_range part
-    && ((is_name (low part) && is_some (number_of (high part))) || (is_some (number_of (low part)) && is_name (high part)))
+    && ((is_name (low_side part) && is_some (number_of (high_side part))) || (is_some (number_of (low_side part)) && is_name (high_side part)))
 
 -- it ends in L or W, or has a `#`; the name of July is none of these
 abbrev pub is_modified : List ℕ → Bool
@@ -146,7 +146,7 @@ is_long_name part = begins_with_name part && (is_capital (slice_index part 3) &&
 
 -- a star or a question mark whose step is 1, if it has one
 abbrev pub names_all : List ℕ → Bool
-names_all part = (bytes_eq (low part) (codes "*") || bytes_eq (low part) (codes "?"))
+names_all part = (bytes_eq (low_side part) (codes "*") || bytes_eq (low_side part) (codes "?"))
     && (not (has_step part) || is_number 1 (step_of part))
 
 -- the number of a weekday from 0 for Sunday, by its name too
@@ -160,7 +160,7 @@ leads_to_seven day step = false
 
 -- a weekday, no range, with such a step
 abbrev pub reaches_seven : List ℕ → Bool
-reaches_seven part = has_step part && (not (is_range part) && leads_to_seven (weekday_number (low part)) (number_of (step_of part)))
+reaches_seven part = has_step part && (not (is_range part) && leads_to_seven (weekday_number (low_side part)) (number_of (step_of part)))
 
 -- the Monday-to-Friday day nearest to a day that not each month has
 abbrev pub is_late_nearest : List ℕ → Bool
@@ -178,9 +178,9 @@ is_of forms.Modified part = is_modified part
 is_of forms.WithoutStart part = begins_with slash part
 is_of forms.Star part = bytes_eq part (codes "*")
 is_of forms.Open part = bytes_eq part (codes "?")
-is_of forms.QuestionMark part = bytes_eq (low part) (codes "?")
-is_of forms.StarStep part = bytes_eq (front part) (codes "*") && is_above 1 (step_of part)
-is_of forms.Zero part = not (is_starred part) && is_number 0 (low part)
+is_of forms.QuestionMark part = bytes_eq (low_side part) (codes "?")
+is_of forms.StarStep part = bytes_eq (front_of_step part) (codes "*") && is_above 1 (step_of part)
+is_of forms.Zero part = not (is_starred part) && is_number 0 (low_side part)
 is_of forms.Down part = goes_down part
 is_of forms.Mixed part = is_mixed part
 is_of (forms.StepAbove n) part = steps_above n part

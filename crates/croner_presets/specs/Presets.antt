@@ -26,7 +26,7 @@ program_of presets.Spring = codes "Spring up to 5.2"
 
 -- a sentence on the program: its name, a blank, and what it does
 abbrev pub SaysOf : Preset → List ℕ → Type 0
-SaysOf preset said = (behind : List ℕ) × (said ≡ program_of preset ++ (32 ∷ behind))
+SaysOf preset said = (after : List ℕ) × (said ≡ program_of preset ++ (32 ∷ after))
 
 -- no preset has this name
 abbrev pub IsNoName : List ℕ → Type 0
@@ -45,19 +45,19 @@ settings_of presets.Quartz = record { seconds_field = seconds.Required; year_fie
 settings_of presets.Spring = record { seconds_field = seconds.Required; year_field = year.Disallowed; both_days = true; quartz = false; sloppy = true }
 
 -- what is looked for, in the order in which it is told: what the program refuses, what it takes, what it reads otherwise
-abbrev pub looked_for : Preset → List Difference
-looked_for presets.Kubernetes =
+abbrev pub differences_looked_for : Preset → List Difference
+differences_looked_for presets.Kubernetes =
     its.NicknameInCapitals ∷ its.SundayAsSeven ∷ its.RangeToSunday ∷ its.OtherName ∷ its.DayModifier ∷ its.PlusBeforeName ∷ its.StepWithoutStart
     ∷ its.StarInList ∷ its.Midnight ∷ its.Every ∷ its.ZoneInFront ∷ its.QuestionMarkElsewhere
     ∷ its.StarAmongDays ∷ its.SundayToSunday ∷ its.PlusBeforeNumber ∷ its.StepToSunday ∷ []
-looked_for presets.Github =
+differences_looked_for presets.Github =
     its.Nickname ∷ its.SundayAsSeven ∷ its.OtherName ∷ its.DayModifier ∷ its.QuestionMark ∷ its.Plus ∷ its.StepWithoutStart
     ∷ its.Frequent ∷ []
-looked_for presets.Quartz =
+differences_looked_for presets.Quartz =
     its.Nickname ∷ its.NotOneOpenDay ∷ its.OtherName ∷ its.Plus ∷ its.LastInList ∷ its.SecondNth ∷ its.LargeStep ∷ its.MixedRange
     ∷ its.StarInList ∷ its.DaysBeforeLast ∷ its.RangeDown ∷ its.StepOfZero ∷ its.LongName
     ∷ its.NthInList ∷ its.NearestInList ∷ its.LateNearest ∷ its.LoneLastWeekday ∷ its.StepOfName ∷ []
-looked_for presets.Spring =
+differences_looked_for presets.Spring =
     its.Nickname ∷ its.RangeToSunday ∷ its.OtherName ∷ its.DayModifier ∷ its.StepWithoutStart ∷ its.EmptyPart
     ∷ its.StarInList ∷ its.DayZero ∷ its.SundayToSunday ∷ its.StepOfOpenDay ∷ its.DayStepFromZero ∷ []
 

@@ -37,7 +37,7 @@ pub(crate) fn fields_of<'t>(preset: Preset, words: &[&'t str]) -> Option<Fields<
     ensures { option_map fields_seen result ≡ fields_of (settings_of preset) (map (λ w. w.now) words.now) }
 {
     if accepts(preset, words.len()) {
-        seven(words)
+        fields_by_count(words)
     } else {
         None
     }
@@ -54,7 +54,7 @@ fn accepts(preset: Preset, count: usize) -> bool
 }
 
 // The words as fields: five have no seconds, and five or six no years.
-fn seven<'t>(words: &[&'t str]) -> Option<Fields<'t>>
+fn fields_by_count<'t>(words: &[&'t str]) -> Option<Fields<'t>>
     ensures { option_map fields_seen result ≡ seven (map (λ w. w.now) words.now) }
 {
     match words {

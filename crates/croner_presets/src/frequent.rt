@@ -98,13 +98,13 @@ pub(crate) fn means_frequent(alloc: Global, preset: Preset, text: &str) -> Resul
 {
     match preset.parser().parse(alloc, text) {
         Ok(job) => is_frequent(&job),
-        Err(error) => not_read(&error),
+        Err(error) => answer_to_refusal(&error),
     }
 }
 
 // The answer for a refused text: it isn't frequent, unless memory ran out.
 #[tactic(auto, using(crate::proofs::Told::not_frequent))]
-fn not_read(error: &CronError) -> Result<bool, CronError>
+fn answer_to_refusal(error: &CronError) -> Result<bool, CronError>
     ensures ok { (meaning : Result Meaning Refusal) → Fails error.now meaning → IfOk result (λ yes. yes ≡ means_frequent meaning) }
     ensures err { IfErr result (λ e. e ≡ CronError.OutOfMemory) }
 {

@@ -6,13 +6,13 @@ ghost use Rattle.croner_presets.specs.Views.{fields_seen};
 use crate::difference::Difference;
 use crate::fields::{Fields, fields_of, words_of};
 use crate::frequent::means_frequent;
-use crate::part::{Form, after, begins_with, has, has_part, is_digit_at};
+use crate::part::{Form, begins_with, has, has_part, is_digit_at, text_after};
 use crate::preset::Preset;
 use croner::errors::CronError;
 use std::alloc::Global;
 
 /// The differences between how a program reads this text and how the parser of its preset does: exactly those of
-/// [`looked_for`](Preset::looked_for) that hold, in that order.
+/// [`differences_looked_for`](Preset::differences_looked_for) that hold, in that order.
 ///
 /// Each is about a form in the text, not about the whole text: where the text is otherwise wrong, both may refuse it. The only error is
 /// `OutOfMemory`.
@@ -26,7 +26,13 @@ pub fn differences(alloc: Global, preset: Preset, text: &str) -> Result<Vec<Diff
 {
     let raised = text.to_ascii_uppercase(alloc)?;
     let words = words_of(alloc, raised.as_str())?;
-    those_that_hold(alloc, preset, text, words.as_slice(), preset.looked_for())
+    those_that_hold(
+        alloc,
+        preset,
+        text,
+        words.as_slice(),
+        preset.differences_looked_for(),
+    )
 }
 
 // Those of some differences that hold of a text with these words.
@@ -154,7 +160,7 @@ fn has_last_in_list(field: &str) -> bool
 fn has_second_hash(field: &str) -> bool
     ensures { result ≡ has_second_hash field.now }
 {
-    has(after(field, '#'), '#')
+    has(text_after(field, '#'), '#')
 }
 
 fn has_nth_in_list(field: &str) -> bool
@@ -182,7 +188,7 @@ fn is_lone_star(field: &str) -> bool
 }
 
 impl Fields<'_> {
-    fn any(&self, form: Form) -> bool
+    fn any_field_has(&self, form: Form) -> bool
         ensures { result ≡ any_field form (fields_seen self.now) }
     {
         has_part(form, self.seconds)
@@ -194,13 +200,13 @@ impl Fields<'_> {
             || has_part(form, self.years)
     }
 
-    fn any_day(&self, form: Form) -> bool
+    fn any_day_field_has(&self, form: Form) -> bool
         ensures { result ≡ any_day_field form (fields_seen self.now) }
     {
         has_part(form, self.days) || has_part(form, self.weekdays)
     }
 
-    fn any_named(&self, form: Form) -> bool
+    fn any_named_field_has(&self, form: Form) -> bool
         ensures { result ≡ any_named_field form (fields_seen self.now) }
     {
         has_part(form, self.months) || has_part(form, self.weekdays)
@@ -285,7 +291,8 @@ impl Fields<'_> {
     fn has_star_among_days(&self) -> bool
         ensures { result ≡ has_star_among_days (fields_seen self.now) }
     {
-        !(is_lone_star(self.days) || is_lone_star(self.weekdays)) && self.any_day(Form::All)
+        !(is_lone_star(self.days) || is_lone_star(self.weekdays))
+            && self.any_day_field_has(Form::All)
     }
 
     // Whether a difference of fields holds; one of the whole text doesn't.
@@ -296,25 +303,25 @@ impl Fields<'_> {
             Difference::SundayAsSeven => has_part(Form::Seven, self.weekdays),
             Difference::RangeToSunday => has_part(Form::ToSunday, self.weekdays),
             Difference::OtherName => self.has_other_name(),
-            Difference::DayModifier => self.any_day(Form::Modified),
+            Difference::DayModifier => self.any_day_field_has(Form::Modified),
             Difference::QuestionMark => has(self.days, '?') || has(self.weekdays, '?'),
             Difference::Plus => self.has_plus(),
             Difference::PlusBeforeName => self.has_plus() && !self.has_plus_digit(),
-            Difference::StepWithoutStart => self.any(Form::WithoutStart),
-            Difference::EmptyPart => self.any(Form::Empty),
+            Difference::StepWithoutStart => self.any_field_has(Form::WithoutStart),
+            Difference::EmptyPart => self.any_field_has(Form::Empty),
             Difference::NotOneOpenDay => self.has_not_one_open_day(),
             Difference::LastInList => {
                 has_last_in_list(self.days) || has_last_in_list(self.weekdays)
             }
             Difference::SecondNth => has_second_hash(self.weekdays),
             Difference::LargeStep => self.has_large_step(),
-            Difference::MixedRange => self.any_named(Form::Mixed),
+            Difference::MixedRange => self.any_named_field_has(Form::Mixed),
             Difference::QuestionMarkElsewhere => self.has_question_elsewhere(),
             Difference::StarInList => self.has_star_in_any_list(),
             Difference::DaysBeforeLast => has_days_before_last(self.days),
             Difference::RangeDown => self.has_range_down(),
-            Difference::StepOfZero => self.any(Form::StepOfZero),
-            Difference::LongName => self.any_named(Form::LongName),
+            Difference::StepOfZero => self.any_field_has(Form::StepOfZero),
+            Difference::LongName => self.any_named_field_has(Form::LongName),
             Difference::DayZero => has_part(Form::Zero, self.days),
             Difference::StarAmongDays => self.has_star_among_days(),
             Difference::SundayToSunday => has_part(Form::SundayToSunday, self.weekdays),
@@ -324,7 +331,7 @@ impl Fields<'_> {
             Difference::NearestInList => has_nearest_in_list(self.days),
             Difference::LateNearest => has_part(Form::LateNearest, self.days),
             Difference::LoneLastWeekday => self.weekdays == "L",
-            Difference::StepOfName => self.any_named(Form::StepOfName),
+            Difference::StepOfName => self.any_named_field_has(Form::StepOfName),
             Difference::StepOfOpenDay => {
                 has_step_of_open_day(self.days) || has_step_of_open_day(self.weekdays)
             }

@@ -2,7 +2,7 @@
 ghost use Rattle.std.specs.Prelude.{◌≡◌, ◌<◌, ◌-◌, ◌==◌, slice_index, option_map};
 ghost use Rattle.std.specs.List.{list_any, before_first, after_first};
 ghost use Rattle.croner_base.specs.Part.{number_of, contains_byte};
-ghost use Rattle.croner_presets.specs.Parts.{front, is_digit_at, is_capital, has_step, step_of, is_range, low, high, is_starred, is_number, is_above, month_of, weekday_of, name_of, is_name, is_sunday, begins_with_text, begins_with_name, has_side, ends_at_sunday, starts_at_sunday, descends, goes_down, is_mixed, is_modified, steps_above, is_long_name, weekday_number, leads_to_seven, reaches_seven, names_all, is_late_nearest, is_of, has_part, is_some};
+ghost use Rattle.croner_presets.specs.Parts.{front_of_step, is_digit_at, is_capital, has_step, step_of, is_range, low_side, high_side, is_starred, is_number, is_above, month_of, weekday_of, name_of, is_name, is_sunday, begins_with_text, begins_with_name, has_side, ends_at_sunday, starts_at_sunday, descends, goes_down, is_mixed, is_modified, steps_above, is_long_name, weekday_number, leads_to_seven, reaches_seven, names_all, is_late_nearest, is_of, has_part, is_some};
 
 /// A form of a part.
 #[derive(Clone, Copy, Drop)]
@@ -63,8 +63,8 @@ const WEEKDAYS: [&str; 7] = ["SUN", "MON", "TUE", "WED", "THU", "FRI", "SAT"];
 /// How many letters a name has.
 const NAME_LENGTH: usize = 3;
 
-#[tactic(auto, using(crate::proofs::Splits::before))]
-fn before(text: &str, sign: char) -> &str
+#[tactic(auto, using(crate::proofs::Splits::text_before))]
+fn text_before(text: &str, sign: char) -> &str
     requires { sign < 128 }
     ensures { result.now ≡ before_first (λ b. b == sign) text.now }
 {
@@ -74,8 +74,8 @@ fn before(text: &str, sign: char) -> &str
     }
 }
 
-#[tactic(auto, using(crate::proofs::Splits::after))]
-pub(crate) fn after(text: &str, sign: char) -> &str
+#[tactic(auto, using(crate::proofs::Splits::text_after))]
+pub(crate) fn text_after(text: &str, sign: char) -> &str
     requires { sign < 128 }
     ensures { result.now ≡ after_first (λ b. b == sign) text.now }
 {
@@ -192,10 +192,10 @@ fn is_starred(part: &str) -> bool
     part.starts_with('*') || part.starts_with('?')
 }
 
-fn front(part: &str) -> &str
-    ensures { result.now ≡ front part.now }
+fn front_of_step(part: &str) -> &str
+    ensures { result.now ≡ front_of_step part.now }
 {
-    before(part, '/')
+    text_before(part, '/')
 }
 
 fn has_step(part: &str) -> bool
@@ -207,25 +207,25 @@ fn has_step(part: &str) -> bool
 fn step_of(part: &str) -> &str
     ensures { result.now ≡ step_of part.now }
 {
-    after(part, '/')
+    text_after(part, '/')
 }
 
 fn is_range(part: &str) -> bool
     ensures { result ≡ is_range part.now }
 {
-    has(front(part), '-')
+    has(front_of_step(part), '-')
 }
 
-fn low(part: &str) -> &str
-    ensures { result.now ≡ low part.now }
+fn low_side(part: &str) -> &str
+    ensures { result.now ≡ low_side part.now }
 {
-    before(front(part), '-')
+    text_before(front_of_step(part), '-')
 }
 
-fn high(part: &str) -> &str
-    ensures { result.now ≡ high part.now }
+fn high_side(part: &str) -> &str
+    ensures { result.now ≡ high_side part.now }
 {
-    after(front(part), '-')
+    text_after(front_of_step(part), '-')
 }
 
 fn is_sunday(text: &str) -> bool
@@ -237,33 +237,35 @@ fn is_sunday(text: &str) -> bool
 fn has_number(n: u16, part: &str) -> bool
     ensures { result ≡ has_side (is_number n) part.now }
 {
-    !is_starred(part) && (is_number(n, low(part)) || (is_range(part) && is_number(n, high(part))))
+    !is_starred(part)
+        && (is_number(n, low_side(part)) || (is_range(part) && is_number(n, high_side(part))))
 }
 
 fn has_month(part: &str) -> bool
     ensures { result ≡ has_side (λ side. is_some (month_of side)) part.now }
 {
     !is_starred(part)
-        && (month(low(part)).is_some() || (is_range(part) && month(high(part)).is_some()))
+        && (month(low_side(part)).is_some() || (is_range(part) && month(high_side(part)).is_some()))
 }
 
 fn has_weekday(part: &str) -> bool
     ensures { result ≡ has_side (λ side. is_some (weekday_of side)) part.now }
 {
     !is_starred(part)
-        && (weekday(low(part)).is_some() || (is_range(part) && weekday(high(part)).is_some()))
+        && (weekday(low_side(part)).is_some()
+            || (is_range(part) && weekday(high_side(part)).is_some()))
 }
 
 fn ends_at_sunday(part: &str) -> bool
     ensures { result ≡ ends_at_sunday part.now }
 {
-    is_range(part) && is_sunday(high(part))
+    is_range(part) && is_sunday(high_side(part))
 }
 
 fn starts_at_sunday(part: &str) -> bool
     ensures { result ≡ starts_at_sunday part.now }
 {
-    is_sunday(low(part)) || is_number(0, low(part))
+    is_sunday(low_side(part)) || is_number(0, low_side(part))
 }
 
 fn descends(a: Option<u16>, b: Option<u16>) -> bool
@@ -279,16 +281,16 @@ fn goes_down(part: &str) -> bool
     ensures { result ≡ goes_down part.now }
 {
     is_range(part)
-        && (descends(number(low(part)), number(high(part)))
-            || descends(name(low(part)), name(high(part))))
+        && (descends(number(low_side(part)), number(high_side(part)))
+            || descends(name(low_side(part)), name(high_side(part))))
 }
 
 fn is_mixed(part: &str) -> bool
     ensures { result ≡ is_mixed part.now }
 {
     is_range(part)
-        && ((is_name(low(part)) && number(high(part)).is_some())
-            || (number(low(part)).is_some() && is_name(high(part))))
+        && ((is_name(low_side(part)) && number(high_side(part)).is_some())
+            || (number(low_side(part)).is_some() && is_name(high_side(part))))
 }
 
 fn is_modified(part: &str) -> bool
@@ -334,7 +336,8 @@ fn is_long_name(part: &str) -> bool
 fn names_all(part: &str) -> bool
     ensures { result ≡ names_all part.now }
 {
-    (low(part) == "*" || low(part) == "?") && (!has_step(part) || is_number(1, step_of(part)))
+    (low_side(part) == "*" || low_side(part) == "?")
+        && (!has_step(part) || is_number(1, step_of(part)))
 }
 
 // The number of a weekday from 0 for Sunday, by its name too.
@@ -369,7 +372,8 @@ fn reaches_seven(part: &str) -> bool
     ensures { result ≡ reaches_seven part.now }
 {
     has_step(part)
-        && (!is_range(part) && leads_to_seven(weekday_number(low(part)), number(step_of(part))))
+        && (!is_range(part)
+            && leads_to_seven(weekday_number(low_side(part)), number(step_of(part))))
 }
 
 fn is_late_nearest(part: &str) -> bool
@@ -392,9 +396,9 @@ fn is_of(form: Form, part: &str) -> bool
         Form::WithoutStart => part.starts_with('/'),
         Form::Star => part == "*",
         Form::Open => part == "?",
-        Form::QuestionMark => low(part) == "?",
-        Form::StarStep => front(part) == "*" && is_above(1, step_of(part)),
-        Form::Zero => !is_starred(part) && is_number(0, low(part)),
+        Form::QuestionMark => low_side(part) == "?",
+        Form::StarStep => front_of_step(part) == "*" && is_above(1, step_of(part)),
+        Form::Zero => !is_starred(part) && is_number(0, low_side(part)),
         Form::Down => goes_down(part),
         Form::Mixed => is_mixed(part),
         Form::StepAbove(n) => steps_above(n, part),

@@ -1,6 +1,6 @@
 //! The programs, and the settings of the parser for each.
 ghost use Rattle.std.specs.Prelude.{◌≡◌, MatchOption};
-ghost use Rattle.croner_presets.specs.Presets.{name_of, five_fields, settings_of, looked_for, IsNoName};
+ghost use Rattle.croner_presets.specs.Presets.{name_of, five_fields, settings_of, differences_looked_for, IsNoName};
 
 use crate::difference::Difference;
 use croner::parser::{CronParser, Seconds, Year};
@@ -77,8 +77,8 @@ impl Preset {
 
     /// The differences looked for in a text, in the order in which they are listed: what the program refuses, what it accepts,
     /// and what it reads differently.
-    pub fn looked_for(self) -> &'static [Difference]
-        ensures { result.now ≡ looked_for self }
+    pub fn differences_looked_for(self) -> &'static [Difference]
+        ensures { result.now ≡ differences_looked_for self }
     {
         match self {
             Preset::Kubernetes => &OF_KUBERNETES,

@@ -3,7 +3,7 @@
 use crate::comparisons::{of_iterators, of_jobs};
 use crate::field_calls::call_of_field;
 use crate::pattern_calls::call_of_pattern;
-use crate::texts::{describe, from_json, parse, unparsed};
+use crate::texts::{describe, from_json, parse, unparsed_text};
 use crate::times::{add, matching, resolve};
 use crate::{Caller, Outcome, Result, text};
 use serde_json::Value;
@@ -13,7 +13,7 @@ pub fn ask(caller: Caller<'_>, question: &Value, op: &str) -> Result<Outcome> {
     match op {
         "component_call" | "field" => call_of_field(caller, question),
         "parse" => parse(caller, question),
-        "unparsed" | "new pattern" => unparsed(caller, question),
+        "unparsed" | "new pattern" => unparsed_text(caller, question),
         "from_json" => from_json(caller, question),
         "describe" => describe(caller, question),
         "match" => matching(caller, question),

@@ -25,7 +25,7 @@ pub fn over_time<C: OverTime>(caller: Caller<'_>, question: &Value, calls: &C) -
     match question.get("zone") {
         None | Some(Value::Null) => calls.outcome(caller, civil_start(question)?),
         Some(zone) => match zone.get("rule") {
-            Some(rule) => calls.outcome(caller, zoned(rule, question)?),
+            Some(rule) => calls.outcome(caller, zoned_clock(rule, question)?),
             None => over_table(caller, question, zone, calls),
         },
     }
@@ -69,7 +69,7 @@ fn start_second(question: &Value) -> Result<i64> {
     }
 }
 
-fn zoned(rule: &Value, question: &Value) -> Result<Zoned<'static>> {
+fn zoned_clock(rule: &Value, question: &Value) -> Result<Zoned<'static>> {
     Ok(Zoned::new(start_instant(question)?, read_rule(rule)?))
 }
 

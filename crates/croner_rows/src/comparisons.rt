@@ -17,7 +17,7 @@ pub fn of_jobs(caller: Caller<'_>, question: &Value) -> Result<Outcome> {
     caller.begin();
     let order = Some(one.cron.cmp(&other.cron));
     caller.end();
-    compared(caller, &one.cron, &other.cron, order)
+    comparison(caller, &one.cron, &other.cron, order)
 }
 
 /// Two iterators over the runs of a job from a start: their order, whether they are equal, and whether they are hashed alike.
@@ -31,7 +31,7 @@ pub fn of_iterators(caller: Caller<'_>, question: &Value) -> Result<Outcome> {
     caller.begin();
     let order = one.partial_cmp(other);
     caller.end();
-    compared(caller, one, other, order)
+    comparison(caller, one, other, order)
 }
 
 // An iterator over the runs of a job from a civil start, made as a member of the question says, and asked for one run if that
@@ -45,7 +45,7 @@ fn asked_runs<'j>(job: &'j Job, question: &Value, name: &str) -> Result<Runs<'j,
     Ok(runs)
 }
 
-fn compared<T: PartialEq + Hash>(
+fn comparison<T: PartialEq + Hash>(
     caller: Caller<'_>,
     one: &T,
     other: &T,

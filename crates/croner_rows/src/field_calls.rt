@@ -1,7 +1,7 @@
 //! Calls of one field.
 
 use crate::{
-    Answer, Caller, Fault, Outcome, Result, items, list, member, number, parts, shown, word,
+    Answer, Caller, Fault, Outcome, Result, given_value, items, list, member, number, parts, word,
 };
 use croner::CronComponent;
 use croner::component::{ALL_BIT, LAST_BIT};
@@ -64,8 +64,8 @@ fn readers(field: &CronComponent) -> Given {
 
 fn call_with(field: &mut CronComponent, name: &str, given: &Value) -> Result<Given> {
     match name {
-        "parse" => done(field.parse(word(given)?)),
-        "handle_stepping" => done(field.handle_stepping(word(given)?)),
+        "parse" => given_nothing(field.parse(word(given)?)),
+        "handle_stepping" => given_nothing(field.handle_stepping(word(given)?)),
         "set_sloppy_ranges" => {
             field.set_sloppy_ranges(given.as_bool().ok_or(Fault::Malformed)?);
             Ok(Given::Done)
@@ -76,14 +76,14 @@ fn call_with(field: &mut CronComponent, name: &str, given: &Value) -> Result<Giv
     }
 }
 
-fn done(outcome: Result<(), CronError>) -> Result<Given> {
+fn given_nothing(outcome: Result<(), CronError>) -> Result<Given> {
     outcome?;
     Ok(Given::Done)
 }
 
 fn call_with_bit(field: &mut CronComponent, name: &str, bit: u8) -> Result<Given> {
     match name {
-        "enable_feature" => done(field.enable_feature(bit)),
+        "enable_feature" => given_nothing(field.enable_feature(bit)),
         "is_feature_allowed" => Ok(value(field.is_feature_allowed(bit))),
         "is_feature_enabled" => Ok(value(field.is_feature_enabled(bit))),
         "count_set_values" => Ok(value(field.count_set_values(bit))),
@@ -94,8 +94,8 @@ fn call_with_bit(field: &mut CronComponent, name: &str, bit: u8) -> Result<Given
 
 fn mark(field: &mut CronComponent, name: &str, number: u16, bit: u8) -> Result<Given> {
     match name {
-        "set_bit" => done(field.set_bit(number, bit)),
-        "unset_bit" => done(field.unset_bit(number, bit)),
+        "set_bit" => given_nothing(field.set_bit(number, bit)),
+        "unset_bit" => given_nothing(field.unset_bit(number, bit)),
         "is_bit_set" => Ok(value(field.is_bit_set(number, bit)?)),
         _ => Err(Fault::Malformed),
     }
@@ -115,7 +115,7 @@ pub fn are_alike<T: Ord + Hash>(one: &T, other: &T) -> bool {
 }
 
 // What a call answers, as a JSON value.
-fn shown(alloc: Global, given: Result<Given>) -> Result<Value> {
+fn given_value(alloc: Global, given: Result<Given>) -> Result<Value> {
     match given? {
         Given::Done => shown::text(alloc, "ok"),
         Given::Value(value) => Ok(value),
@@ -159,7 +159,7 @@ pub fn call_of_field(caller: Caller<'_>, question: &Value) -> Result<Outcome> {
     caller.begin();
     let given = make(caller.alloc, &mut field, call);
     caller.end();
-    let answer = shown(caller.alloc, given).map(Answer::Value);
+    let answer = given_value(caller.alloc, given).map(Answer::Value);
     let outcome = Outcome::new(answer, shown::field(caller.alloc, &field));
     drop(field);
     outcome
@@ -170,7 +170,7 @@ pub fn calls_in_turn(alloc: Global, field: &mut CronComponent, question: &Value)
     let mut answers = Vec::new(alloc);
     for call in list(question, "calls")? {
         let given = make(alloc, field, call);
-        answers.push(shown::or_refusal(alloc, shown(alloc, given))?)?;
+        answers.push(shown::answer_or_refusal(alloc, given_value(alloc, given))?)?;
     }
     Ok(Value::Array(answers))
 }

@@ -51,11 +51,11 @@ pub fn whole_text(alloc: Global, question: &Value) -> Result<String> {
     let given = member(question, "text")?;
     match given.as_str() {
         Some(text) => Ok(String::from_str(alloc, text)?),
-        None => put_together(alloc, items(given)?),
+        None => text_of_pieces(alloc, items(given)?),
     }
 }
 
-fn put_together(alloc: Global, pieces: &[Value]) -> Result<String> {
+fn text_of_pieces(alloc: Global, pieces: &[Value]) -> Result<String> {
     let mut text = String::new(alloc);
     for piece in pieces {
         let [piece, count] = parts::<2>(piece)?;

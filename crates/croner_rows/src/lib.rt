@@ -34,15 +34,15 @@ pub use lines::{Summary, Tool, answer_lines, status};
 pub use marks::Caller;
 pub use members::{
     civil, civil_value, direction, flag, items, list, member, number, number_at, parts, switch,
-    text, three, weekday, word,
+    text, three_numbers, weekday, word,
 };
 pub use moments::Moment;
 pub use outcomes::{Answer, Outcome};
 pub use pattern_calls::{field_at, time_component};
 pub use schedulers::{Named, call_in_turn, call_scheduler, new_scheduler, standings};
 pub use subjects::{How, Run, Runs, Subject, Table};
-pub use texts::printed;
-pub use times::{bare, instants, time_and_job};
+pub use texts::printed_text;
+pub use times::{bare_text, instants, time_and_job};
 
 /// An answer, or why there is none.
 pub type Result<T, E = Fault> = std::result::Result<T, E>;

@@ -94,11 +94,11 @@ fn judge_line<T: Tool>(alloc: Global, tool: &T, line: &[u8]) -> Result<Judged> {
     match question.get("want") {
         None => Ok(Judged::Unjudged(got.to_string(alloc)?)),
         Some(want) if tool.is_wanted(&got, want) => Ok(Judged::Same),
-        Some(want) => differing(alloc, &got, want),
+        Some(want) => judged_different(alloc, &got, want),
     }
 }
 
-fn differing(alloc: Global, got: &Value, want: &Value) -> Result<Judged> {
+fn judged_different(alloc: Global, got: &Value, want: &Value) -> Result<Judged> {
     let (got, want) = (got.to_string(alloc)?, want.to_string(alloc)?);
     Ok(Judged::Differs(format!(in alloc; "got {got}, want {want}")?))
 }

@@ -13,13 +13,13 @@ pub struct Caller<'r> {
 
 impl<'r> Caller<'r> {
     /// A caller that makes no marks.
-    pub fn unmarked(alloc: Global) -> Caller<'r> {
+    pub fn without_marks(alloc: Global) -> Caller<'r> {
         let marking = None;
         Caller { alloc, marking }
     }
 
     /// A caller that makes marks.
-    pub fn marked(rt: &'r HostRuntime) -> Caller<'r> {
+    pub fn with_marks(rt: &'r HostRuntime) -> Caller<'r> {
         let (alloc, marking) = (rt.alloc(), Some(rt));
         Caller { alloc, marking }
     }

@@ -73,7 +73,7 @@ where
 }
 
 /// A list of three whole numbers.
-pub fn three<N: TryFrom<i64>>(question: &Value, name: &str) -> Result<(N, u32, u32)>
+pub fn three_numbers<N: TryFrom<i64>>(question: &Value, name: &str) -> Result<(N, u32, u32)>
 where
     N::Error: Drop,
 {

@@ -83,11 +83,11 @@ impl Outcome {
     /// The answer as a text, or the name of the refusal; and what was lent.
     pub fn into_texts(self, alloc: Global) -> Result<(String, String)> {
         let Outcome { answer, after } = self;
-        Ok((told(alloc, answer)?, after))
+        Ok((text_of_answer(alloc, answer)?, after))
     }
 }
 
-fn told(alloc: Global, answer: Result<Answer>) -> Result<String> {
+fn text_of_answer(alloc: Global, answer: Result<Answer>) -> Result<String> {
     match answer {
         Ok(answer) => answer.into_text(alloc),
         Err(Fault::Refused(error)) => Ok(String::from_str(alloc, refusal(&error))?),

@@ -1,8 +1,8 @@
 //! Calls of one pattern: what its fields match.
 
 use crate::{
-    Answer, Caller, Fault, Job, Outcome, Result, direction, number_at, shown, text, three, weekday,
-    word,
+    Answer, Caller, Fault, Job, Outcome, Result, direction, number_at, shown, text, three_numbers,
+    weekday, word,
 };
 use croner::time::TimeComponent;
 use croner::{Cron, CronComponent, CronPattern};
@@ -22,9 +22,9 @@ pub fn time_component(question: &Value) -> Result<TimeComponent> {
 }
 
 // The answer of a call with members of the question as arguments; with arguments that no month has the question is malformed.
-fn made(pattern: &CronPattern, question: &Value, op: &str) -> Result<Value> {
+fn answer_of_call(pattern: &CronPattern, question: &Value, op: &str) -> Result<Value> {
     match op {
-        "find" => found(pattern, question),
+        "find" => found_value(pattern, question),
         "closest_weekday" => Ok(Value::Bool(is_closest(pattern, question)?)),
         "day_mask" => Ok(Value::from(mask(pattern, question)?)),
         "day_match" => Ok(Value::Bool(is_day(pattern, question)?)),
@@ -32,7 +32,7 @@ fn made(pattern: &CronPattern, question: &Value, op: &str) -> Result<Value> {
     }
 }
 
-fn found(pattern: &CronPattern, question: &Value) -> Result<Value> {
+fn found_value(pattern: &CronPattern, question: &Value) -> Result<Value> {
     let (value, part) = (number_at(question, "value")?, time_component(question)?);
     let found = pattern.find_match_in_component(value, part, direction(question)?)?;
     Ok(Value::from(found))
@@ -56,7 +56,7 @@ fn mask(pattern: &CronPattern, question: &Value) -> Result<u32> {
 }
 
 fn is_day(pattern: &CronPattern, question: &Value) -> Result<bool> {
-    let (year, month, day) = three(question, "date")?;
+    let (year, month, day) = three_numbers(question, "date")?;
     Ok(pattern.day_match(year, month, day, weekday(question, "weekday")?)?)
 }
 
@@ -88,12 +88,12 @@ pub fn field_at<'p>(pattern: &'p mut CronPattern, name: &str) -> Result<&'p mut 
 /// A call of the pattern of a text, with one of its fields emptied if the question names it; and what the pattern holds afterwards.
 pub fn call_of_pattern(caller: Caller<'_>, question: &Value, op: &str) -> Result<Outcome> {
     let Cron { mut pattern } = Job::read(caller.alloc, question)?.into_cron();
-    let outcome = called(caller, &mut pattern, question, op);
+    let outcome = outcome_of_call(caller, &mut pattern, question, op);
     drop(pattern);
     outcome
 }
 
-fn called(
+fn outcome_of_call(
     caller: Caller<'_>,
     pattern: &mut CronPattern,
     question: &Value,
@@ -103,7 +103,7 @@ fn called(
         *field_at(pattern, word(name)?)? = CronComponent::default(caller.alloc);
     }
     caller.begin();
-    let answer = made(pattern, question, op);
+    let answer = answer_of_call(pattern, question, op);
     caller.end();
     let after = shown::pattern(caller.alloc, pattern);
     Outcome::new(answer.map(Answer::Value), after)

@@ -89,7 +89,7 @@ fn view<T: Clocked>(
     match name {
         "next_wake_up" => Ok(next_wake_up(caller, scheduler)),
         "standings" => standings(caller.alloc, scheduler),
-        "stopped" => stopped(caller, scheduler),
+        "stopped" => stopped_jobs(caller, scheduler),
         _ => Err(Fault::Unsupported),
     }
 }
@@ -104,7 +104,7 @@ fn add<T: Clocked>(
 ) -> Result<Value> {
     let [_, job, clock, second] = parts::<4>(call)?;
     let Some(position) = named.position(clock, second)? else {
-        return no_second(caller.alloc);
+        return answer_without_second(caller.alloc);
     };
     let job = named.job(caller.alloc, job)?;
     caller.begin();
@@ -115,8 +115,8 @@ fn add<T: Clocked>(
     };
     caller.end();
     match added {
-        Ok(added) => marked(caller.alloc, Value::from(added.id), added.is_stopped),
-        Err(refused) => not_added(caller.alloc, refused),
+        Ok(added) => with_stop_mark(caller.alloc, Value::from(added.id), added.is_stopped),
+        Err(refused) => job_not_added(caller.alloc, refused),
     }
 }
 
@@ -129,15 +129,15 @@ fn replace<T: Clocked>(
     let [_, id, job, clock, second] = parts::<5>(call)?;
     let id = id_of(id)?;
     let Some(position) = named.position(clock, second)? else {
-        return no_second(caller.alloc);
+        return answer_without_second(caller.alloc);
     };
     let job = named.job(caller.alloc, job)?;
     caller.begin();
     let replaced = scheduler.replace(id, job, position);
     caller.end();
     match replaced {
-        Ok(out) => put_in_place(caller.alloc, out),
-        Err(refused) => not_added(caller.alloc, refused),
+        Ok(out) => job_put_in_place(caller.alloc, out),
+        Err(refused) => job_not_added(caller.alloc, refused),
     }
 }
 
@@ -152,7 +152,7 @@ fn remove<T: Clocked>(
     let out = scheduler.remove(id);
     caller.end();
     match out {
-        Some((job, position)) => given_back(caller.alloc, &job, &position),
+        Some((job, position)) => job_given_back(caller.alloc, &job, &position),
         None => Ok(Value::Null),
     }
 }
@@ -228,11 +228,15 @@ fn take_latest_due<T: Clocked>(
 // The second of a run, or why there is none.
 fn shown_latest(alloc: Global, latest: Latest) -> Result<Value> {
     match latest {
-        Latest::Given { second, is_stopped } => marked(alloc, Value::from(second), is_stopped),
+        Latest::Given { second, is_stopped } => with_stop_mark(
+            alloc,
+            Value::from(second),
+            is_stopped,
+        ),
         Latest::NothingDue => shown::text(alloc, "NothingDue"),
         Latest::NoJob => shown::text(alloc, "NoJob"),
         Latest::NotHeld => shown::text(alloc, "NotHeld"),
-        Latest::Refused(error) => shown::refused(alloc, &error),
+        Latest::Refused(error) => shown::refusal_value(alloc, &error),
     }
 }
 
@@ -275,13 +279,16 @@ fn what_comes_next<T: Clocked>(alloc: Global, waiting: &Waiting<FlakyJob, T>) ->
 
 fn shown_stop(alloc: Global, stop: &Stop) -> Result<Value> {
     match stop {
-        Stop::Refused(error) => shown::refused(alloc, error),
+        Stop::Refused(error) => shown::refusal_value(alloc, error),
         Stop::NotLater => shown::text(alloc, "NotLater"),
     }
 }
 
 // Each job of a scheduler that is stopped, in the order of the ids: its id, and why.
-fn stopped<T: Clocked>(caller: Caller<'_>, scheduler: &Scheduler<FlakyJob, T>) -> Result<Value> {
+fn stopped_jobs<T: Clocked>(
+    caller: Caller<'_>,
+    scheduler: &Scheduler<FlakyJob, T>,
+) -> Result<Value> {
     caller.begin();
     let left = scheduler.stopped();
     caller.end();
@@ -294,23 +301,23 @@ fn stopped<T: Clocked>(caller: Caller<'_>, scheduler: &Scheduler<FlakyJob, T>) -
 }
 
 // A job that is given back, as its text, and its position.
-fn given_back<T: Clocked>(alloc: Global, job: &FlakyJob, position: &T) -> Result<Value> {
+fn job_given_back<T: Clocked>(alloc: Global, job: &FlakyJob, position: &T) -> Result<Value> {
     let text = shown::text(alloc, job.as_str())?;
     shown::pair(alloc, text, Value::from(position.second()))
 }
 
-fn put_in_place<T: Clocked>(alloc: Global, out: Replaced<FlakyJob, T>) -> Result<Value> {
-    let given = given_back(alloc, &out.job, &out.position)?;
-    marked(alloc, given, out.is_stopped)
+fn job_put_in_place<T: Clocked>(alloc: Global, out: Replaced<FlakyJob, T>) -> Result<Value> {
+    let given = job_given_back(alloc, &out.job, &out.position)?;
+    with_stop_mark(alloc, given, out.is_stopped)
 }
 
 fn shown_due(alloc: Global, due: Due) -> Result<Value> {
     let run = shown::pair(alloc, Value::from(due.id), Value::from(due.second))?;
-    marked(alloc, run, due.is_stopped)
+    with_stop_mark(alloc, run, due.is_stopped)
 }
 
 // An answer; and where it tells that its job is stopped, that beside it.
-fn marked(alloc: Global, answer: Value, is_stopped: bool) -> Result<Value> {
+fn with_stop_mark(alloc: Global, answer: Value, is_stopped: bool) -> Result<Value> {
     if is_stopped {
         let stopped = shown::text(alloc, "stopped")?;
         shown::pair(alloc, answer, stopped)
@@ -320,9 +327,9 @@ fn marked(alloc: Global, answer: Value, is_stopped: bool) -> Result<Value> {
 }
 
 // Why a job isn't added, and the job and its position as they were handed back.
-fn not_added<T: Clocked>(alloc: Global, refused: NotAdded<FlakyJob, T>) -> Result<Value> {
+fn job_not_added<T: Clocked>(alloc: Global, refused: NotAdded<FlakyJob, T>) -> Result<Value> {
     let error = shown::text(alloc, error_name(&refused.error)?)?;
-    let given = given_back(alloc, &refused.job, &refused.position)?;
+    let given = job_given_back(alloc, &refused.job, &refused.position)?;
     shown::pair(alloc, error, given)
 }
 
@@ -337,7 +344,7 @@ fn error_name(error: &AddError) -> Result<&'static str> {
 }
 
 // The answer where a call names a second that its clock doesn't have.
-fn no_second(alloc: Global) -> Result<Value> {
+fn answer_without_second(alloc: Global) -> Result<Value> {
     shown::text(alloc, "no such second")
 }
 
@@ -348,7 +355,7 @@ fn shown_skip(alloc: Global, skip: Skip) -> Result<Value> {
         Skip::NoJob => ("NoJob", false),
         Skip::NotHeld => ("NotHeld", false),
     };
-    marked(alloc, shown::text(alloc, name)?, is_stopped)
+    with_stop_mark(alloc, shown::text(alloc, name)?, is_stopped)
 }
 
 fn again_name(again: Again) -> &'static str {

@@ -37,7 +37,7 @@ pub fn refusal(error: &CronError) -> &'static str {
 }
 
 /// A refusal as a JSON value. Lack of memory isn't a refusal, but a fault.
-pub fn refused(alloc: Global, error: &CronError) -> Result<Value> {
+pub fn refusal_value(alloc: Global, error: &CronError) -> Result<Value> {
     match error {
         CronError::OutOfMemory => Err(Fault::OutOfMemory),
         error => text(alloc, refusal(error)),
@@ -45,9 +45,9 @@ pub fn refused(alloc: Global, error: &CronError) -> Result<Value> {
 }
 
 /// An answer, or its refusal.
-pub fn or_refusal(alloc: Global, answer: Result<Value>) -> Result<Value> {
+pub fn answer_or_refusal(alloc: Global, answer: Result<Value>) -> Result<Value> {
     match answer {
-        Err(Fault::Refused(error)) => refused(alloc, &error),
+        Err(Fault::Refused(error)) => refusal_value(alloc, &error),
         answer => answer,
     }
 }
@@ -166,7 +166,7 @@ fn marks(alloc: Global, component: &CronComponent) -> Result<String> {
 }
 
 // The sum of the bits that are enabled.
-fn enabled(component: &CronComponent) -> u8 {
+fn enabled_bits(component: &CronComponent) -> u8 {
     let mut enabled = 0;
     for (_, bit) in MODIFIERS {
         if component.is_feature_enabled(bit) {
@@ -179,7 +179,7 @@ fn enabled(component: &CronComponent) -> u8 {
 /// What a field holds.
 pub fn field(alloc: Global, component: &CronComponent) -> Result<String> {
     let marks = marks(alloc, component)?;
-    let (enabled, step) = (enabled(component), component.step());
+    let (enabled, step) = (enabled_bits(component), component.step());
     let wildcard = component.from_wildcard();
     Ok(format!(in alloc;
         "{{\"marks\":{{{marks}}},\"enabled\":{enabled},\"step\":{step},\"wildcard\":{wildcard}}}"
@@ -221,10 +221,10 @@ fn head(alloc: Global, pattern: &CronPattern) -> Result<String> {
 
 /// What a pattern holds.
 pub fn pattern(alloc: Global, pattern: &CronPattern) -> Result<String> {
-    held(alloc, pattern, "")
+    held_text(alloc, pattern, "")
 }
 
-fn held(alloc: Global, pattern: &CronPattern, kind: &str) -> Result<String> {
+fn held_text(alloc: Global, pattern: &CronPattern, kind: &str) -> Result<String> {
     let (head, fields) = (head(alloc, pattern)?, fields(alloc, pattern)?);
     Ok(format!(in alloc; "{{{head}{kind},\"fields\":{{{fields}}}}}")?)
 }
@@ -241,5 +241,5 @@ pub fn job_type(kind: JobType) -> &'static str {
 pub fn job(alloc: Global, cron: &Cron) -> Result<String> {
     let kind = job_type(cron.determine_job_type());
     let kind = format!(in alloc; ",\"job_type\":\"{kind}\"")?;
-    held(alloc, &cron.pattern, kind.as_str())
+    held_text(alloc, &cron.pattern, kind.as_str())
 }

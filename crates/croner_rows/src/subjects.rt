@@ -180,7 +180,7 @@ impl<'j, T: Moment> Runs<'j, T> {
     pub fn item(&mut self, alloc: Global) -> Result<Value> {
         let run = self.next();
         if let Some(fault) = self.fault() {
-            return shown::refused(alloc, fault);
+            return shown::refusal_value(alloc, fault);
         }
         match run {
             Some(run) => run.shown(alloc),
@@ -219,13 +219,13 @@ impl Table {
             None => None,
         };
         caller.begin();
-        let out = changed(&mut self.jobs, change, place, by);
+        let out = change_jobs(&mut self.jobs, change, place, by);
         caller.end();
         out
     }
 }
 
-fn changed(
+fn change_jobs(
     jobs: &mut CronTable,
     change: &str,
     place: usize,

@@ -16,11 +16,11 @@ pub fn parse(caller: Caller<'_>, question: &Value) -> Result<Outcome> {
     caller.begin();
     let read = parser.parse(caller.alloc, text.as_str());
     caller.end();
-    Ok(Outcome::of(caller.alloc, held(caller.alloc, read)))
+    Ok(Outcome::of(caller.alloc, held_answer(caller.alloc, read)))
 }
 
 /// What a job that was read holds.
-pub fn held(alloc: Global, read: Result<Cron, CronError>) -> Result<Answer> {
+pub fn held_answer(alloc: Global, read: Result<Cron, CronError>) -> Result<Answer> {
     let job = Job::new(read?);
     Ok(Answer::Text(shown::job(alloc, &job.cron)?))
 }
@@ -31,16 +31,19 @@ pub fn from_json(caller: Caller<'_>, question: &Value) -> Result<Outcome> {
     caller.begin();
     let read = Cron::from_json(caller.alloc, value);
     caller.end();
-    Outcome::new(held(caller.alloc, read), printed(caller.alloc, value))
+    Outcome::new(
+        held_answer(caller.alloc, read),
+        printed_text(caller.alloc, value),
+    )
 }
 
 /// A JSON value as its text.
-pub fn printed(alloc: Global, value: &Value) -> Result<String> {
+pub fn printed_text(alloc: Global, value: &Value) -> Result<String> {
     Ok(value.to_string(alloc)?)
 }
 
 /// The text of a pattern that is made with it, but not parsed.
-pub fn unparsed(caller: Caller<'_>, question: &Value) -> Result<Outcome> {
+pub fn unparsed_text(caller: Caller<'_>, question: &Value) -> Result<Outcome> {
     let text = text(question, "text")?;
     caller.begin();
     let made = CronPattern::new(caller.alloc, text);
@@ -55,7 +58,7 @@ fn kept_text(alloc: Global, made: Result<CronPattern, CronError>) -> Result<Answ
     Ok(Answer::Value(kept?))
 }
 
-fn described(cron: &Cron, language: &str) -> Result<String> {
+fn description_of(cron: &Cron, language: &str) -> Result<String> {
     match language {
         "english" => Ok(cron.describe()?),
         "swedish" => Ok(cron.describe_lang(Swedish)?),
@@ -70,7 +73,7 @@ pub fn describe(caller: Caller<'_>, question: &Value) -> Result<Outcome> {
     let language = text(question, "language")?;
     let job = Job::read(caller.alloc, question)?;
     caller.begin();
-    let text = described(&job.cron, language);
+    let text = description_of(&job.cron, language);
     caller.end();
     Outcome::new(text_answer(text), shown::job(caller.alloc, &job.cron))
 }

@@ -18,22 +18,25 @@ impl<'j> OverTime for Naming<'j> {
         caller.begin();
         let answer = self.0.cron.is_time_matching(&time);
         caller.end();
-        Outcome::new(truth(answer), time_and_job(caller.alloc, &time, self.0))
+        Outcome::new(
+            truth_answer(answer),
+            time_and_job(caller.alloc, &time, self.0),
+        )
     }
 }
 
-fn truth(answer: Result<bool, CronError>) -> Result<Answer> {
+fn truth_answer(answer: Result<bool, CronError>) -> Result<Answer> {
     Ok(Answer::Value(Value::Bool(answer?)))
 }
 
 /// A time and a job as texts.
 pub fn time_and_job<T: Moment>(alloc: Global, time: &T, job: &Job) -> Result<String> {
-    let (time, job) = (bare(alloc, time)?, shown::job(alloc, &job.cron)?);
+    let (time, job) = (bare_text(alloc, time)?, shown::job(alloc, &job.cron)?);
     Ok(format!(in alloc; "{time} {job}")?)
 }
 
 /// A time as a text without quotes.
-pub fn bare<T: Moment>(alloc: Global, time: &T) -> Result<String> {
+pub fn bare_text<T: Moment>(alloc: Global, time: &T) -> Result<String> {
     Answer::Value(time.shown(alloc)?).into_text(alloc)
 }
 
@@ -56,7 +59,7 @@ impl OverTime for Resolving {
         let found = time.resolve_civil(caller.alloc, self.0);
         caller.end();
         let found = found_instants(caller.alloc, found);
-        Outcome::new(found, bare(caller.alloc, &time))
+        Outcome::new(found, bare_text(caller.alloc, &time))
     }
 }
 
@@ -97,7 +100,7 @@ impl OverTime for Adding {
         caller.begin();
         let sum = time.checked_add_seconds(caller.alloc, self.0);
         caller.end();
-        Outcome::new(sum_found(caller.alloc, sum), bare(caller.alloc, &time))
+        Outcome::new(sum_found(caller.alloc, sum), bare_text(caller.alloc, &time))
     }
 }
 

@@ -79,12 +79,12 @@ even_more f first reached last step next some low on before is within there =
       λ value above below.
           elim (cases_lt value (reached + 1)) [
             | inl done ↦ before value above (omega arith)
-            | inr behind ↦
+            | inr after ↦
                 elim (cases_lt value next) [
                   | inl between ↦
                       let rest : (value - first) % step ≡ (value - reached) % step = from_later step first reached value low (omega arith) whole in
                       let small : (value - reached) % step ≡ value - reached = below_step step (value - reached) (omega arith) in
-                      is.none value behind between ∙ sym (not_stepwise step (value - first) (value - reached) (rest ∙ small) (omega arith))
+                      is.none value after between ∙ sym (not_stepwise step (value - first) (value - reached) (rest ∙ small) (omega arith))
                   | inr last_one ↦
                       let here : value ≡ next = omega arith in
                       ap (is_plain f) here ∙ is.plain within ∙ sym (ap (λ v. is_stepwise step (v - first)) here ∙ on_next)

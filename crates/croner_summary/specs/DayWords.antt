@@ -17,7 +17,7 @@ use Rattle.croner_summary.specs.declared.phrase.Piece.{Piece}
 use Rattle.croner_summary.specs.declared.phrase.Piece.TheVariants.{Every, EveryNth, One, Range, RangeNth}
 use Rattle.croner_summary.specs.declared.words.Kind.{Kind}
 use Rattle.croner_summary.specs.declared.words.Kind.TheVariants.{Ordinal, Weekday, NthWeekday, OnlyWeekday}
-use Rattle.croner_summary.specs.Words.{list_text, nth_text, ordinal, sole, span_text, term_text, unit_name, weekday_name}
+use Rattle.croner_summary.specs.Words.{list_text, nth_text, ordinal, only_piece, span_text, term_text, unit_name, weekday_name}
 use Rattle.croner_summary.specs.TimeWords.{is_one, is_sole, value_of}
 
 -- a phrase names something
@@ -43,7 +43,7 @@ is_all other = false
 -- weekdays after a term: `each Monday and Friday`; all of them: `each day`
 unfoldable pub named_weekdays : Style → Kind → Term → List Piece → List ℕ
 named_weekdays style kind before pieces =
-    if is_all (sole pieces) then term_text style.language Each ++ unit_name style.language Day
+    if is_all (only_piece pieces) then term_text style.language Each ++ unit_name style.language Day
     else term_text style.language before ++ list_text style kind pieces
 
 -- those of a phrase, if it has any: ` on each Monday and Friday`
@@ -62,7 +62,7 @@ nth_on_text l told listed = if listed then term_text l And else on_text l told
 -- weekdays by their names, all of them from Sunday to Saturday
 unfoldable pub weekday_names : Style → List Piece → List ℕ
 weekday_names style pieces =
-    if is_all (sole pieces) then span_text style.language Weekday 0 6 else list_text style Weekday pieces
+    if is_all (only_piece pieces) then span_text style.language Weekday 0 6 else list_text style Weekday pieces
 
 -- weekdays of which some are in a row, each for itself: `of each weekday, Monday to Friday,`
 unfoldable pub each_weekday : Style → List Piece → List ℕ
@@ -108,7 +108,7 @@ nth_weekdays style told w = if has_nth w then from_first style told w ++ term_te
 
 unfoldable pub weekdays_text : Style → Bool → Weekdays → List ℕ
 weekdays_text style told w =
-    weekday_part style Weekday (each_term (sole w.each.pieces.items)) told w.each ++ nth_weekdays style (told || is_some w.each) w
+    weekday_part style Weekday (each_term (only_piece w.each.pieces.items)) told w.each ++ nth_weekdays style (told || is_some w.each) w
 
 -- weekdays to which days are narrowed: `, but only on Mondays`
 unfoldable pub only_text : Style → Weekdays → List ℕ
@@ -150,7 +150,7 @@ numbered style pieces None = term_text style.language The ++ list_text style Ord
 
 unfoldable pub numbers_text : Style → Phrase → List ℕ
 numbers_text style p =
-    if is_some p then term_text style.language On ++ numbered style p.pieces.items (sole p.pieces.items) else []
+    if is_some p then term_text style.language On ++ numbered style p.pieces.items (only_piece p.pieces.items) else []
 
 unfoldable pub from_end_text : SummaryLanguage → Bool → FromEnd → List ℕ
 from_end_text l told Neither = []
@@ -171,10 +171,10 @@ having_text l (Some (One n)) = term_text l HavingOne ++ (ordinal l n ++ term_tex
 having_text l other = term_text l HavingDays
 
 unfoldable pub late_text : SummaryLanguage → List Piece → List ℕ
-late_text l pieces = if list_any is_late pieces then having_text l (sole pieces) else []
+late_text l pieces = if list_any is_late pieces then having_text l (only_piece pieces) else []
 
 unfoldable pub near_days : Style → List Piece → List ℕ
-near_days style pieces = term_text style.language Nearest ++ (numbered style pieces (sole pieces) ++ late_text style.language pieces)
+near_days style pieces = term_text style.language Nearest ++ (numbered style pieces (only_piece pieces) ++ late_text style.language pieces)
 
 -- the 1st alone
 unfoldable pub is_first_day : Option Piece → Bool
@@ -182,7 +182,7 @@ is_first_day one = is_sole one && value_of one == 1
 
 unfoldable pub nearest : Style → List Piece → List ℕ
 nearest style pieces =
-    if is_first_day (sole pieces) then term_text style.language TheFirstWorkingDay else near_days style pieces
+    if is_first_day (only_piece pieces) then term_text style.language TheFirstWorkingDay else near_days style pieces
 
 unfoldable pub nearest_text : Style → Bool → Phrase → List ℕ
 nearest_text style told p = if is_some p then on_text style.language told ++ nearest style p.pieces.items else []
@@ -193,12 +193,12 @@ is_counted Neither = false
 is_counted LastDay = true
 is_counted LastWorkingDay = true
 
-unfoldable pub behind_numbers : Style → Bool → MonthDays → List ℕ
-behind_numbers style told d =
+unfoldable pub after_numbers_text : Style → Bool → MonthDays → List ℕ
+after_numbers_text style told d =
     from_end_text style.language told d.from_end ++ nearest_text style (told || is_counted d.from_end) d.nearest
 
 unfoldable pub month_days_text : Style → MonthDays → List ℕ
-month_days_text style d = numbers_text style d.numbers ++ behind_numbers style (is_some d.numbers) d
+month_days_text style d = numbers_text style d.numbers ++ after_numbers_text style (is_some d.numbers) d
 
 unfoldable pub names_month_day : MonthDays → Bool
 names_month_day d = is_some d.numbers || (is_counted d.from_end || is_some d.nearest)
@@ -208,8 +208,8 @@ names_month_day d = is_some d.numbers || (is_counted d.from_end || is_some d.nea
 -- one day of the month and one weekday: `Friday the 13th`
 unfoldable pub is_dated_weekday : MonthDays → Weekdays → Bool
 is_dated_weekday d w =
-    (is_sole (sole d.numbers.pieces.items) && not (is_counted d.from_end || is_some d.nearest))
-    && (is_sole (sole w.each.pieces.items) && not (has_nth w))
+    (is_sole (only_piece d.numbers.pieces.items) && not (is_counted d.from_end || is_some d.nearest))
+    && (is_sole (only_piece w.each.pieces.items) && not (has_nth w))
 
 unfoldable pub dated_weekday : SummaryLanguage → ℕ → ℕ → List ℕ
 dated_weekday l weekday day = term_text l On ++ (weekday_name l weekday ++ (term_text l DatedThe ++ ordinal l day))
@@ -217,7 +217,7 @@ dated_weekday l weekday day = term_text l On ++ (weekday_name l weekday ++ (term
 unfoldable pub both_text : Style → MonthDays → Weekdays → List ℕ
 both_text style d w =
     if is_dated_weekday d w
-    then dated_weekday style.language (value_of (sole w.each.pieces.items)) (value_of (sole d.numbers.pieces.items))
+    then dated_weekday style.language (value_of (only_piece w.each.pieces.items)) (value_of (only_piece d.numbers.pieces.items))
     else month_days_text style d ++ only_text style w
 
 unfoldable pub days_text : Style → Days → List ℕ

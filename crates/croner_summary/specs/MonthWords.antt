@@ -9,7 +9,7 @@ use Rattle.croner_summary.specs.declared.phrase.Piece.{Piece}
 use Rattle.croner_summary.specs.declared.phrase.Piece.TheVariants.{Every, EveryNth, One, Range, RangeNth}
 use Rattle.croner_summary.specs.declared.words.Kind.{Kind}
 use Rattle.croner_summary.specs.declared.words.Kind.TheVariants.{Month, Year}
-use Rattle.croner_summary.specs.Words.{head_step, is_year, least_of, list_text, nth_text, sole, span_text, term_text, unit_name, value_text}
+use Rattle.croner_summary.specs.Words.{head_step, is_year, least_of, list_text, nth_text, only_piece, span_text, term_text, unit_name, value_text}
 
 -- every nth: `every 3rd month from `
 unfoldable pub stepped : SummaryLanguage → TimeUnit → Kind → ℕ → List ℕ
@@ -57,7 +57,7 @@ years_case style pieces (Some (Range first last)) =
 years_case style pieces None = listed_years style pieces (head_step pieces)
 
 unfoldable pub months_text : Style → List Piece → List ℕ
-months_text style pieces = months_case style pieces (sole pieces)
+months_text style pieces = months_case style pieces (only_piece pieces)
 
 unfoldable pub years_text : Style → List Piece → List ℕ
-years_text style pieces = years_case style pieces (sole pieces)
+years_text style pieces = years_case style pieces (only_piece pieces)

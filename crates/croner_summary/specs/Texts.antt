@@ -18,21 +18,21 @@ use Rattle.croner_summary.specs.MonthWords.{months_text, years_text}
 -- ---- nothing
 
 -- what the days don't name, where they name nothing
-unfoldable pub no_day : Days → Option Term
-no_day EveryDay = None
-no_day (OfMonth d) = if names_month_day d then None else Some NoMonthDay
-no_day (OfWeek w) = if names_weekday w then None else Some NoWeekday
-no_day (Either d w) = if names_month_day d || names_weekday w then None else Some NoDay
-no_day (Both d w) = if not (names_month_day d) then Some NoMonthDay else (if names_weekday w then None else Some NoWeekday)
+unfoldable pub term_of_no_day : Days → Option Term
+term_of_no_day EveryDay = None
+term_of_no_day (OfMonth d) = if names_month_day d then None else Some NoMonthDay
+term_of_no_day (OfWeek w) = if names_weekday w then None else Some NoWeekday
+term_of_no_day (Either d w) = if names_month_day d || names_weekday w then None else Some NoDay
+term_of_no_day (Both d w) = if not (names_month_day d) then Some NoMonthDay else (if names_weekday w then None else Some NoWeekday)
 
 -- the first field that names nothing
-unfoldable pub nothing : Summary → Option Term
-nothing s =
+unfoldable pub term_of_nothing : Summary → Option Term
+term_of_nothing s =
     if not (is_some s.seconds) then Some NoSecond
     else (if not (is_some s.minutes) then Some NoMinute
     else (if not (is_some s.hours) then Some NoHour
     else (if not (is_some s.months) then Some NoMonth
-    else (if not (is_some s.years) then Some NoYear else no_day s.days))))
+    else (if not (is_some s.years) then Some NoYear else term_of_no_day s.days))))
 
 -- ---- the text in a style
 
@@ -49,7 +49,7 @@ text_or style s (Some term) = term_text style.language term
 
 -- the text of a summary in a style: what it says, or that nothing is named
 unfoldable pub styled_text : Style → Summary → List ℕ
-styled_text style s = text_or style s (nothing s)
+styled_text style s = text_or style s (term_of_nothing s)
 
 -- ---- its length
 

@@ -11,11 +11,11 @@ use Rattle.croner_summary.specs.declared.phrase.Piece.TheVariants.{Every, EveryN
 use Rattle.croner_summary.specs.declared.time_words.Stretch.{Stretch}
 use Rattle.croner_summary.specs.declared.words.Kind.{Kind}
 use Rattle.croner_summary.specs.declared.words.Kind.TheVariants.{Number, HourAt, MinuteOf}
-use Rattle.croner_summary.specs.Words.{clock_text, every_text, head_step, list_text, sole, span_text, term_text, unit_text}
+use Rattle.croner_summary.specs.Words.{clock_text, every_text, head_step, list_text, only_piece, span_text, term_text, unit_text}
 
 -- a part of the day, stepped through by minutes or by hours
-abbrev pub by_minutes : ℕ → ℕ → ℕ → ℕ → ℕ → Stretch
-by_minutes step from_hour from_minute to_hour to_minute = record {
+abbrev pub stretch_by_minutes : ℕ → ℕ → ℕ → ℕ → ℕ → Stretch
+stretch_by_minutes step from_hour from_minute to_hour to_minute = record {
   by_hours = false;
   step = step;
   from_hour = from_hour;
@@ -25,8 +25,8 @@ by_minutes step from_hour from_minute to_hour to_minute = record {
 }
 
 -- at one minute of each of the hours
-abbrev pub by_hours : ℕ → ℕ → ℕ → ℕ → Stretch
-by_hours step from_hour to_hour minute = record {
+abbrev pub stretch_by_hours : ℕ → ℕ → ℕ → ℕ → Stretch
+stretch_by_hours step from_hour to_hour minute = record {
   by_hours = true;
   step = step;
   from_hour = from_hour;
@@ -36,34 +36,34 @@ by_hours step from_hour to_hour minute = record {
 }
 
 -- minutes within one hour
-abbrev pub in_hour : Option Piece → ℕ → Option Stretch
-in_hour (Some Every) hour = Some (by_minutes 1 hour 0 hour 59)
-in_hour (Some (EveryNth n)) hour = Some (by_minutes n hour 0 hour (60 - n))
-in_hour (Some (Range first last)) hour = Some (by_minutes 1 hour first hour last)
-in_hour (Some (RangeNth first last n)) hour = Some (by_minutes n hour first hour last)
-in_hour (Some (One minute)) hour = None
-in_hour None hour = None
+abbrev pub stretch_in_hour : Option Piece → ℕ → Option Stretch
+stretch_in_hour (Some Every) hour = Some (stretch_by_minutes 1 hour 0 hour 59)
+stretch_in_hour (Some (EveryNth n)) hour = Some (stretch_by_minutes n hour 0 hour (60 - n))
+stretch_in_hour (Some (Range first last)) hour = Some (stretch_by_minutes 1 hour first hour last)
+stretch_in_hour (Some (RangeNth first last n)) hour = Some (stretch_by_minutes n hour first hour last)
+stretch_in_hour (Some (One minute)) hour = None
+stretch_in_hour None hour = None
 
 -- minutes of hours in a row
-abbrev pub in_hours : Option Piece → ℕ → ℕ → Option Stretch
-in_hours (Some Every) first last = Some (by_minutes 1 first 0 last 59)
-in_hours (Some (EveryNth n)) first last = Some (by_minutes n first 0 last (60 - n))
-in_hours (Some (One minute)) first last = Some (by_hours 1 first last minute)
-in_hours (Some (Range from to)) first last = None
-in_hours (Some (RangeNth from to n)) first last = None
-in_hours None first last = None
+abbrev pub stretch_in_hours : Option Piece → ℕ → ℕ → Option Stretch
+stretch_in_hours (Some Every) first last = Some (stretch_by_minutes 1 first 0 last 59)
+stretch_in_hours (Some (EveryNth n)) first last = Some (stretch_by_minutes n first 0 last (60 - n))
+stretch_in_hours (Some (One minute)) first last = Some (stretch_by_hours 1 first last minute)
+stretch_in_hours (Some (Range from to)) first last = None
+stretch_in_hours (Some (RangeNth from to n)) first last = None
+stretch_in_hours None first last = None
 
 -- a minute of hours at a step
-abbrev pub at_step : Option Piece → ℕ → ℕ → ℕ → Option Stretch
-at_step (Some (One minute)) first last n = Some (by_hours n first last minute)
-at_step other first last n = None
+abbrev pub stretch_at_step : Option Piece → ℕ → ℕ → ℕ → Option Stretch
+stretch_at_step (Some (One minute)) first last n = Some (stretch_by_hours n first last minute)
+stretch_at_step other first last n = None
 
 -- the minutes and hours as one part of the day
 abbrev pub stretch_of : Option Piece → Option Piece → Option Stretch
-stretch_of minutes (Some (One hour)) = in_hour minutes hour
-stretch_of minutes (Some (Range first last)) = in_hours minutes first last
-stretch_of minutes (Some (RangeNth first last n)) = at_step minutes first last n
-stretch_of minutes (Some (EveryNth n)) = at_step minutes 0 (24 - n) n
+stretch_of minutes (Some (One hour)) = stretch_in_hour minutes hour
+stretch_of minutes (Some (Range first last)) = stretch_in_hours minutes first last
+stretch_of minutes (Some (RangeNth first last n)) = stretch_at_step minutes first last n
+stretch_of minutes (Some (EveryNth n)) = stretch_at_step minutes 0 (24 - n) n
 stretch_of minutes (Some Every) = None
 stretch_of minutes None = None
 
@@ -103,7 +103,7 @@ of_hours style hours = term_text style.language Of ++ unit_text style Hour hours
 
 -- minutes of hours that have no form of their own
 unfoldable pub minutes_and_hours : Style → List Piece → List Piece → List ℕ
-minutes_and_hours style minutes hours = minutes_head style minutes (sole minutes) ++ of_hours style hours
+minutes_and_hours style minutes hours = minutes_head style minutes (only_piece minutes) ++ of_hours style hours
 
 -- a step with others beside
 unfoldable pub beside_text : Style → ℕ → List Piece → List ℕ
@@ -149,8 +149,8 @@ is_every other = false
 -- minutes and hours, at second 0
 unfoldable pub minutes_text : Style → List Piece → List Piece → List ℕ
 minutes_text style minutes hours =
-    if is_every (sole hours) then each_hour_text style minutes hours (sole minutes)
-    else stretched style minutes hours (stretch_of (sole minutes) (sole hours))
+    if is_every (only_piece hours) then each_hour_text style minutes hours (only_piece minutes)
+    else stretched style minutes hours (stretch_of (only_piece minutes) (only_piece hours))
 
 -- one value
 abbrev pub is_one : Piece → Bool
@@ -198,8 +198,8 @@ hour_case style second minutes hours other = untimed style second minutes hours
 unfoldable pub minute_case : Style → ℕ → List Piece → List Piece → Option Piece → List ℕ
 minute_case style second minutes hours (Some (One minute)) =
     if are_times hours then times_text style (HourAt minute second) hours
-    else hour_case style second minutes hours (sole hours)
-minute_case style second minutes hours other = hour_case style second minutes hours (sole hours)
+    else hour_case style second minutes hours (only_piece hours)
+minute_case style second minutes hours other = hour_case style second minutes hours (only_piece hours)
 
 -- seconds of each minute
 unfoldable pub seconds_text : Style → List Piece → List Piece → List Piece → Option Piece → List ℕ
@@ -209,13 +209,13 @@ seconds_text style seconds minutes hours other = parts_text style seconds minute
 
 unfoldable pub many_seconds : Style → List Piece → List Piece → List Piece → Option Piece → List ℕ
 many_seconds style seconds minutes hours one =
-    if is_every (sole minutes) && is_every (sole hours) then seconds_text style seconds minutes hours one
+    if is_every (only_piece minutes) && is_every (only_piece hours) then seconds_text style seconds minutes hours one
     else parts_text style seconds minutes hours
 
 -- the times of a day
 unfoldable pub second_case : Style → List Piece → List Piece → List Piece → Option Piece → List ℕ
-second_case style seconds minutes hours (Some (One second)) = minute_case style second minutes hours (sole minutes)
+second_case style seconds minutes hours (Some (One second)) = minute_case style second minutes hours (only_piece minutes)
 second_case style seconds minutes hours other = many_seconds style seconds minutes hours other
 
 unfoldable pub time_text : Style → List Piece → List Piece → List Piece → List ℕ
-time_text style seconds minutes hours = second_case style seconds minutes hours (sole seconds)
+time_text style seconds minutes hours = second_case style seconds minutes hours (only_piece seconds)

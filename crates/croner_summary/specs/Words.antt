@@ -132,10 +132,10 @@ unfoldable pub list_text : Style → Kind → List Piece → List ℕ
 list_text style kind pieces = from_place (separator style.language) 0 (items_of style kind pieces)
 
 -- the one piece of a list
-abbrev pub sole : List Piece → Option Piece
-sole [] = None
-sole (one ∷ []) = Some one
-sole (one ∷ two ∷ more) = None
+abbrev pub only_piece : List Piece → Option Piece
+only_piece [] = None
+only_piece (one ∷ []) = Some one
+only_piece (one ∷ two ∷ more) = None
 
 -- the step that a list of more than one piece begins with
 abbrev pub head_step : List Piece → Option ℕ
@@ -167,9 +167,9 @@ sole_text style unit pieces None = units_text style.language unit ++ list_text s
 
 -- pieces of a unit, of which the first may be a step: `every 6th hour from 0 and hour 9`
 unfoldable pub headed_text : Style → TimeUnit → List Piece → Option ℕ → List ℕ
-headed_text style unit pieces None = sole_text style unit pieces (sole pieces)
+headed_text style unit pieces None = sole_text style unit pieces (only_piece pieces)
 headed_text style unit pieces (Some n) =
-    whole_step style.language unit n ++ (term_text style.language And ++ sole_text style unit (drop 1 pieces) (sole (drop 1 pieces)))
+    whole_step style.language unit n ++ (term_text style.language And ++ sole_text style unit (drop 1 pieces) (only_piece (drop 1 pieces)))
 
 unfoldable pub unit_text : Style → TimeUnit → List Piece → List ℕ
 unit_text style unit pieces = headed_text style unit pieces (head_step pieces)

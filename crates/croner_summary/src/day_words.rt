@@ -4,7 +4,7 @@ ghost use Rattle.std.specs.Prelude.{◌≡◌, ◌++◌, false, codes};
 ghost use Rattle.std.specs.List.{list_any};
 ghost use Rattle.croner_summary.specs.Private.Appended.{Appends};
 ghost use Rattle.croner_summary.specs.Words.{list_text, term_text};
-ghost use Rattle.croner_summary.specs.DayWords.{behind_numbers, between_days, both_text, dated_weekday, days_text, each_term, each_weekday, from_end_text, from_fifth, from_first, from_fourth, from_second, from_third, has_nth, has_range, having_text, is_all, is_counted, is_dated_weekday, is_first_day, is_late, is_range, is_some, late_text, month_days_text, names_month_day, named_weekdays, names_weekday, near_days, nearest, nearest_text, nth_day, nth_names, nth_on_text, nth_part, nth_weekdays, numbered, numbers_text, of_week_text, on_text, only_text, weekday_names, weekday_part, weekdays_text};
+ghost use Rattle.croner_summary.specs.DayWords.{after_numbers_text, between_days, both_text, dated_weekday, days_text, each_term, each_weekday, from_end_text, from_fifth, from_first, from_fourth, from_second, from_third, has_nth, has_range, having_text, is_all, is_counted, is_dated_weekday, is_first_day, is_late, is_range, is_some, late_text, month_days_text, names_month_day, named_weekdays, names_weekday, near_days, nearest, nearest_text, nth_day, nth_names, nth_on_text, nth_part, nth_weekdays, numbered, numbers_text, of_week_text, on_text, only_text, weekday_names, weekday_part, weekdays_text};
 
 use crate::days::{Days, FromEnd, MonthDays, Weekdays};
 use crate::language::{Style, SummaryLanguage, Term, TimeUnit};
@@ -12,7 +12,7 @@ use crate::phrase::{Phrase, Piece};
 use crate::pieces::{SATURDAY, SUNDAY};
 use crate::time_words::{are_ones, is_sole, value_of};
 use crate::words::{
-    Kind, sole, write_list, write_nth, write_ordinal, write_span, write_term, write_text,
+    Kind, only_piece, write_list, write_nth, write_ordinal, write_span, write_term, write_text,
     write_unit_name, write_value,
 };
 use croner_base::errors::CronError;
@@ -66,7 +66,7 @@ fn write_named(
 ) -> Result<(), CronError>
     ensures { Appends (named_weekdays style kind before pieces.now) text.old text.new result }
 {
-    if is_all(sole(pieces)) {
+    if is_all(only_piece(pieces)) {
         write_term(text, style.language, Term::Each)?;
         return write_unit_name(text, style.language, TimeUnit::Day);
     }
@@ -124,7 +124,7 @@ fn write_nth_on(
 fn write_weekday_names(text: &mut String, style: Style, pieces: &[Piece]) -> Result<(), CronError>
     ensures { Appends (weekday_names style pieces.now) text.old text.new result }
 {
-    if is_all(sole(pieces)) {
+    if is_all(only_piece(pieces)) {
         return write_span(text, style.language, Kind::Weekday, SUNDAY, SATURDAY);
     }
     write_list(text, style, Kind::Weekday, pieces)
@@ -286,7 +286,7 @@ fn write_weekdays(
 ) -> Result<(), CronError>
     ensures { Appends (weekdays_text style told week.now) text.old text.new result }
 {
-    let before = each_term(sole(&week.each.pieces));
+    let before = each_term(only_piece(&week.each.pieces));
     write_weekday_part(text, style, Kind::Weekday, before, told, &week.each)?;
     write_nth_weekdays(text, style, told || is_some(&week.each), week)
 }
@@ -409,7 +409,7 @@ fn write_numbers(text: &mut String, style: Style, phrase: &Phrase) -> Result<(),
         return Ok(());
     }
     write_term(text, style.language, Term::On)?;
-    write_numbered(text, style, &phrase.pieces, sole(&phrase.pieces))
+    write_numbered(text, style, &phrase.pieces, only_piece(&phrase.pieces))
 }
 
 /// Writes the day from the end.
@@ -486,7 +486,7 @@ fn write_late(
     if !has_late(pieces) {
         return Ok(());
     }
-    write_having(text, language, sole(pieces))
+    write_having(text, language, only_piece(pieces))
 }
 
 /// Writes the weekdays nearest to days by number.
@@ -495,7 +495,7 @@ fn write_near_days(text: &mut String, style: Style, pieces: &[Piece]) -> Result<
     ensures { Appends (near_days style pieces.now) text.old text.new result }
 {
     write_term(text, style.language, Term::Nearest)?;
-    write_numbered(text, style, pieces, sole(pieces))?;
+    write_numbered(text, style, pieces, only_piece(pieces))?;
     write_late(text, style.language, pieces)
 }
 
@@ -512,7 +512,7 @@ fn is_first_day(one: Option<Piece>) -> bool
 fn write_nearest(text: &mut String, style: Style, pieces: &[Piece]) -> Result<(), CronError>
     ensures { Appends (nearest style pieces.now) text.old text.new result }
 {
-    if is_first_day(sole(pieces)) {
+    if is_first_day(only_piece(pieces)) {
         return write_term(text, style.language, Term::TheFirstWorkingDay);
     }
     write_near_days(text, style, pieces)
@@ -547,14 +547,14 @@ fn is_counted(from_end: FromEnd) -> bool
 }
 
 /// Writes the days of the month that follow those by number.
-#[tactic(auto, unfolding(crate::specs::DayWords::behind_numbers))]
-fn write_behind_numbers(
+#[tactic(auto, unfolding(crate::specs::DayWords::after_numbers_text))]
+fn write_after_numbers(
     text: &mut String,
     style: Style,
     told: bool,
     month: &MonthDays,
 ) -> Result<(), CronError>
-    ensures { Appends (behind_numbers style told month.now) text.old text.new result }
+    ensures { Appends (after_numbers_text style told month.now) text.old text.new result }
 {
     write_from_end(text, style.language, told, month.from_end)?;
     write_nearest_part(
@@ -571,7 +571,7 @@ fn write_month_days(text: &mut String, style: Style, month: &MonthDays) -> Resul
     ensures { Appends (month_days_text style month.now) text.old text.new result }
 {
     write_numbers(text, style, &month.numbers)?;
-    write_behind_numbers(text, style, is_some(&month.numbers), month)
+    write_after_numbers(text, style, is_some(&month.numbers), month)
 }
 
 /// Whether a day of the month is named.
@@ -587,9 +587,9 @@ pub(crate) fn names_month_day(month: &MonthDays) -> bool
 fn is_dated_weekday(month: &MonthDays, week: &Weekdays) -> bool
     ensures { result ≡ is_dated_weekday month.now week.now }
 {
-    is_sole(sole(&month.numbers.pieces))
+    is_sole(only_piece(&month.numbers.pieces))
         && !(is_counted(month.from_end) || is_some(&month.nearest))
-        && is_sole(sole(&week.each.pieces))
+        && is_sole(only_piece(&week.each.pieces))
         && !has_nth(week)
 }
 
@@ -620,8 +620,8 @@ fn write_both(
     ensures { Appends (both_text style month.now week.now) text.old text.new result }
 {
     if is_dated_weekday(month, week) {
-        let weekday = value_of(sole(&week.each.pieces));
-        let day = value_of(sole(&month.numbers.pieces));
+        let weekday = value_of(only_piece(&week.each.pieces));
+        let day = value_of(only_piece(&month.numbers.pieces));
         return write_dated_weekday(text, style.language, weekday, day);
     }
     write_month_days(text, style, month)?;

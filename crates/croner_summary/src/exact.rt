@@ -76,7 +76,7 @@ fn are_exact(least: u16, greatest: u16, pieces: &[Piece], bit: u8, field: &CronC
 }
 
 /// The marked values of a field, each by itself.
-pub(crate) fn one_by_one(
+pub(crate) fn pieces_one_by_one(
     alloc: Global,
     least: u16,
     greatest: u16,
@@ -112,6 +112,6 @@ pub(crate) fn exact_phrase(
     if are_exact(least, greatest, &found, bit, field) {
         return Ok(Phrase { pieces: found });
     }
-    let pieces = one_by_one(alloc, least, greatest, bit, field)?;
+    let pieces = pieces_one_by_one(alloc, least, greatest, bit, field)?;
     Ok(Phrase { pieces })
 }

@@ -15,7 +15,7 @@ use croner_base::errors::CronError;
 use std::alloc::Global;
 
 /// The values up to `greatest`; at most the last one lies above it.
-fn up_to(values: &[u16], greatest: u16) -> &[u16] {
+fn values_up_to(values: &[u16], greatest: u16) -> &[u16] {
     if values.is_empty() || values[values.len() - 1] <= greatest {
         return values;
     }
@@ -48,7 +48,7 @@ pub(crate) fn marked_phrase(
         return Ok(phrase_of_none(alloc));
     }
     let values = field.get_set_values(bit)?;
-    let pieces = pieces_of(alloc, least, greatest, up_to(&values, greatest))?;
+    let pieces = pieces_of(alloc, least, greatest, values_up_to(&values, greatest))?;
     exact_phrase(alloc, least, greatest, bit, field, pieces)
 }
 
@@ -86,7 +86,7 @@ fn found_phrase(
     ensures err { IfErr result (λ e. e ≡ CronError.OutOfMemory) }
 {
     let values = field.values()?;
-    let pieces = pieces_of(alloc, least, greatest, up_to(&values, greatest))?;
+    let pieces = pieces_of(alloc, least, greatest, values_up_to(&values, greatest))?;
     exact_plain_phrase(alloc, least, greatest, field, pieces)
 }
 

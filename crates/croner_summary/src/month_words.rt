@@ -8,7 +8,7 @@ ghost use Rattle.croner_summary.specs.MonthWords.{listed_months, listed_years, m
 use crate::language::{Style, SummaryLanguage, Term, TimeUnit};
 use crate::phrase::Piece;
 use crate::words::{
-    Kind, head_step, is_year, least_of, sole, write_list, write_nth, write_span, write_term,
+    Kind, head_step, is_year, least_of, only_piece, write_list, write_nth, write_span, write_term,
     write_text, write_unit_name, write_value,
 };
 use croner_base::errors::CronError;
@@ -130,7 +130,7 @@ pub(crate) fn write_months(
 ) -> Result<(), CronError>
     ensures { Appends (months_text style pieces.now) text.old text.new result }
 {
-    write_months_case(text, style, pieces, sole(pieces))
+    write_months_case(text, style, pieces, only_piece(pieces))
 }
 
 /// Writes a list of years.
@@ -203,5 +203,5 @@ pub(crate) fn write_years(
 ) -> Result<(), CronError>
     ensures { Appends (years_text style pieces.now) text.old text.new result }
 {
-    write_years_case(text, style, pieces, sole(pieces))
+    write_years_case(text, style, pieces, only_piece(pieces))
 }

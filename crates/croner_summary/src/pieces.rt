@@ -145,7 +145,7 @@ fn put_sunday_last(weekdays: &mut Vec<Piece>) {
 }
 
 /// How many of the values are a whole number of steps from the least.
-fn on_step(least: u16, values: &[u16], step: u16) -> usize {
+fn count_on_step(least: u16, values: &[u16], step: u16) -> usize {
     values
         .iter()
         .filter(|value| is_stepwise(step, value.saturating_sub(least)))
@@ -169,7 +169,7 @@ fn step_with_few(least: u16, greatest: u16, values: &[u16]) -> u16
     for step in least_step(count, values)..count / STEPS_WITH_OTHERS + 1 {
         let steps = usize::from(steps_of(least, greatest, step));
         let beside = values.len().saturating_sub(steps);
-        if steps > 0 && on_step(least, values, step) == steps && beside <= VALUES_BESIDE {
+        if steps > 0 && count_on_step(least, values, step) == steps && beside <= VALUES_BESIDE {
             return step;
         }
     }
@@ -177,7 +177,12 @@ fn step_with_few(least: u16, greatest: u16, values: &[u16]) -> u16
 }
 
 /// The values that aren't a whole number of steps from the least.
-fn off_step(alloc: Global, least: u16, values: &[u16], step: u16) -> Result<Vec<u16>, CronError>
+fn values_off_step(
+    alloc: Global,
+    least: u16,
+    values: &[u16],
+    step: u16,
+) -> Result<Vec<u16>, CronError>
     ensures { IfErr result (λ e. e ≡ CronError.OutOfMemory) }
 {
     let mut beside = Vec::new(alloc);
@@ -214,7 +219,7 @@ pub(crate) fn pieces_of(
         return Ok(pieces);
     }
     push_piece(&mut pieces, Piece::EveryNth(step))?;
-    let beside = off_step(alloc, least, values, step)?;
+    let beside = values_off_step(alloc, least, values, step)?;
     push_streaks(&mut pieces, &beside)?;
     Ok(pieces)
 }

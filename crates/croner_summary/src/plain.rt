@@ -4,7 +4,7 @@ ghost use Rattle.std.specs.Prelude.{◌≡◌, ◌≤◌, ◌<◌, ◌+◌, IsTr
 ghost use Rattle.croner_summary.specs.Says.{is_in_some};
 ghost use Rattle.croner_summary.specs.Private.Exact.{AgreeBelow, IsExact, IsNextPlain, NamesNone, NameNone, PassesOver, StepAgrees};
 
-use crate::exact::{is_in_some, one_by_one};
+use crate::exact::{is_in_some, pieces_one_by_one};
 use crate::phrase::{Phrase, Piece};
 use croner_base::component::{ALL_BIT, CronComponent};
 use croner_base::errors::CronError;
@@ -110,6 +110,6 @@ pub(crate) fn exact_plain_phrase(
     if are_exact(least, greatest, &found, field) {
         return Ok(Phrase { pieces: found });
     }
-    let pieces = one_by_one(alloc, least, greatest, ALL_BIT, field)?;
+    let pieces = pieces_one_by_one(alloc, least, greatest, ALL_BIT, field)?;
     Ok(Phrase { pieces })
 }

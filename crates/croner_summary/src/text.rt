@@ -2,7 +2,7 @@
 
 ghost use Rattle.std.specs.Prelude.{◌≡◌, ◌<◌, true, false, Some, None, MatchOption, MatchResult};
 ghost use Rattle.croner_summary.specs.DayWords.{is_some};
-ghost use Rattle.croner_summary.specs.Texts.{are_all_told, are_days_told, cut_style, date_text, is_month_told, is_short, is_told, is_week_told, is_whole, no_day, nothing, some_text, styled_text, text_of, whole_style};
+ghost use Rattle.croner_summary.specs.Texts.{are_all_told, are_days_told, cut_style, date_text, is_month_told, is_short, is_told, is_week_told, is_whole, term_of_no_day, term_of_nothing, some_text, styled_text, text_of, whole_style};
 ghost use Rattle.croner_summary.specs.Private.Appended.{Appends};
 ghost use Rattle.croner_words.specs.Writes.{Writes};
 
@@ -28,37 +28,37 @@ const MOST_BYTES: u16 = 400;
 const CUT_PIECES: u16 = 3;
 
 /// The term for missing days, unless some are named.
-fn unless(names: bool, term: Term) -> Option<Term>
+fn term_unless(names: bool, term: Term) -> Option<Term>
     ensures { MatchOption result (names ≡ true) (λ told. (names ≡ false) × (told ≡ term)) }
 {
     if names { None } else { Some(term) }
 }
 
 /// The term for days that name nothing, if they do not.
-#[tactic(auto, unfolding(crate::specs::Texts::no_day))]
-fn no_day(days: &Days) -> Option<Term>
-    ensures { result ≡ no_day days.now }
+#[tactic(auto, unfolding(crate::specs::Texts::term_of_no_day))]
+fn term_of_no_day(days: &Days) -> Option<Term>
+    ensures { result ≡ term_of_no_day days.now }
 {
     match days {
         Days::Every => None,
-        Days::OfMonth(month) => unless(names_month_day(month), Term::NoMonthDay),
-        Days::OfWeek(week) => unless(names_weekday(week), Term::NoWeekday),
+        Days::OfMonth(month) => term_unless(names_month_day(month), Term::NoMonthDay),
+        Days::OfWeek(week) => term_unless(names_weekday(week), Term::NoWeekday),
         Days::Either(month, week) => {
-            unless(names_month_day(month) || names_weekday(week), Term::NoDay)
+            term_unless(names_month_day(month) || names_weekday(week), Term::NoDay)
         }
         Days::Both(month, week) => {
             if !names_month_day(month) {
                 return Some(Term::NoMonthDay);
             }
-            unless(names_weekday(week), Term::NoWeekday)
+            term_unless(names_weekday(week), Term::NoWeekday)
         }
     }
 }
 
 /// The term for the first field that names nothing, if there is one.
-#[tactic(auto, unfolding(crate::specs::Texts::nothing))]
-fn nothing(summary: &Summary) -> Option<Term>
-    ensures { result ≡ nothing summary.now }
+#[tactic(auto, unfolding(crate::specs::Texts::term_of_nothing))]
+fn term_of_nothing(summary: &Summary) -> Option<Term>
+    ensures { result ≡ term_of_nothing summary.now }
 {
     if !is_some(&summary.seconds) {
         return Some(Term::NoSecond);
@@ -75,7 +75,7 @@ fn nothing(summary: &Summary) -> Option<Term>
     if !is_some(&summary.years) {
         return Some(Term::NoYear);
     }
-    no_day(&summary.days)
+    term_of_no_day(&summary.days)
 }
 
 /// Writes the days, the months and the years.
@@ -108,7 +108,7 @@ fn write_some(text: &mut String, style: Style, summary: &Summary) -> Result<(), 
 fn write_styled(text: &mut String, style: Style, summary: &Summary) -> Result<(), CronError>
     ensures { Appends (styled_text style summary.now) text.old text.new result }
 {
-    match nothing(summary) {
+    match term_of_nothing(summary) {
         Some(term) => write_term(text, style.language, term),
         None => write_some(text, style, summary),
     }

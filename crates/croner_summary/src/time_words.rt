@@ -4,12 +4,12 @@ ghost use Rattle.std.specs.Prelude.{◌≡◌, ◌<◌, ◌++◌, true, length, 
 ghost use Rattle.std.specs.List.{list_all};
 ghost use Rattle.croner_summary.specs.Private.Appended.{Appends};
 ghost use Rattle.croner_summary.specs.Words.{every_text, span_text, term_text, unit_text};
-ghost use Rattle.croner_summary.specs.TimeWords.{are_times, at_second, at_step, beside_text, by_hours, by_minutes, each_hour_text, ends_text, from_minutes, hour_case, in_hour, in_hours, is_every, is_one, is_sole, is_to_the_end, is_whole_day, listed_minutes, many_seconds, minute_case, minutes_and_hours, minutes_head, minutes_text, of_hours, part_text, parts_text, second_case, seconds_text, stepped_hourly, stretch_of, stretch_text, stretched, time_text, times_text, unit_of, untimed, value_of};
+ghost use Rattle.croner_summary.specs.TimeWords.{are_times, at_second, stretch_at_step, beside_text, stretch_by_hours, stretch_by_minutes, each_hour_text, ends_text, from_minutes, hour_case, stretch_in_hour, stretch_in_hours, is_every, is_one, is_sole, is_to_the_end, is_whole_day, listed_minutes, many_seconds, minute_case, minutes_and_hours, minutes_head, minutes_text, of_hours, part_text, parts_text, second_case, seconds_text, stepped_hourly, stretch_of, stretch_text, stretched, time_text, times_text, unit_of, untimed, value_of};
 
 use crate::language::{Style, SummaryLanguage, Term, TimeUnit};
 use crate::phrase::Piece;
 use crate::words::{
-    Kind, head_step, sole, write_clock, write_every, write_list, write_number, write_span,
+    Kind, head_step, only_piece, write_clock, write_every, write_list, write_number, write_span,
     write_term, write_unit,
 };
 use croner_base::errors::CronError;
@@ -38,8 +38,14 @@ pub struct Stretch {
 }
 
 /// A stretch by minutes.
-fn by_minutes(step: u16, from_hour: u16, from_minute: u16, to_hour: u16, to_minute: u16) -> Stretch
-    ensures { result ≡ by_minutes step from_hour from_minute to_hour to_minute }
+fn stretch_by_minutes(
+    step: u16,
+    from_hour: u16,
+    from_minute: u16,
+    to_hour: u16,
+    to_minute: u16,
+) -> Stretch
+    ensures { result ≡ stretch_by_minutes step from_hour from_minute to_hour to_minute }
 {
     Stretch {
         by_hours: false,
@@ -52,8 +58,8 @@ fn by_minutes(step: u16, from_hour: u16, from_minute: u16, to_hour: u16, to_minu
 }
 
 /// A stretch by hours, at one minute of each.
-fn by_hours(step: u16, from_hour: u16, to_hour: u16, minute: u16) -> Stretch
-    ensures { result ≡ by_hours step from_hour to_hour minute }
+fn stretch_by_hours(step: u16, from_hour: u16, to_hour: u16, minute: u16) -> Stretch
+    ensures { result ≡ stretch_by_hours step from_hour to_hour minute }
 {
     Stretch {
         by_hours: true,
@@ -66,31 +72,33 @@ fn by_hours(step: u16, from_hour: u16, to_hour: u16, minute: u16) -> Stretch
 }
 
 /// Minutes within one hour.
-fn in_hour(minutes: Option<Piece>, hour: u16) -> Option<Stretch>
-    ensures { result ≡ in_hour minutes hour }
+fn stretch_in_hour(minutes: Option<Piece>, hour: u16) -> Option<Stretch>
+    ensures { result ≡ stretch_in_hour minutes hour }
 {
     match minutes {
-        Some(Piece::Every) => Some(by_minutes(1, hour, 0, hour, LAST_MINUTE)),
+        Some(Piece::Every) => Some(stretch_by_minutes(1, hour, 0, hour, LAST_MINUTE)),
         Some(Piece::EveryNth(n)) => {
-            Some(by_minutes(n, hour, 0, hour, MINUTES.saturating_sub(n)))
+            Some(stretch_by_minutes(n, hour, 0, hour, MINUTES.saturating_sub(n)))
         }
-        Some(Piece::Range(first, last)) => Some(by_minutes(1, hour, first, hour, last)),
-        Some(Piece::RangeNth(first, last, n)) => Some(by_minutes(n, hour, first, hour, last)),
+        Some(Piece::Range(first, last)) => Some(stretch_by_minutes(1, hour, first, hour, last)),
+        Some(Piece::RangeNth(first, last, n)) => Some(stretch_by_minutes(
+            n, hour, first, hour, last,
+        )),
         Some(Piece::One(_)) => None,
         None => None,
     }
 }
 
 /// Minutes of hours in a row.
-fn in_hours(minutes: Option<Piece>, first: u16, last: u16) -> Option<Stretch>
-    ensures { result ≡ in_hours minutes first last }
+fn stretch_in_hours(minutes: Option<Piece>, first: u16, last: u16) -> Option<Stretch>
+    ensures { result ≡ stretch_in_hours minutes first last }
 {
     match minutes {
-        Some(Piece::Every) => Some(by_minutes(1, first, 0, last, LAST_MINUTE)),
+        Some(Piece::Every) => Some(stretch_by_minutes(1, first, 0, last, LAST_MINUTE)),
         Some(Piece::EveryNth(n)) => {
-            Some(by_minutes(n, first, 0, last, MINUTES.saturating_sub(n)))
+            Some(stretch_by_minutes(n, first, 0, last, MINUTES.saturating_sub(n)))
         }
-        Some(Piece::One(minute)) => Some(by_hours(1, first, last, minute)),
+        Some(Piece::One(minute)) => Some(stretch_by_hours(1, first, last, minute)),
         Some(Piece::Range(_, _)) => None,
         Some(Piece::RangeNth(_, _, _)) => None,
         None => None,
@@ -98,11 +106,11 @@ fn in_hours(minutes: Option<Piece>, first: u16, last: u16) -> Option<Stretch>
 }
 
 /// A minute of hours at a step.
-fn at_step(minutes: Option<Piece>, first: u16, last: u16, n: u16) -> Option<Stretch>
-    ensures { result ≡ at_step minutes first last n }
+fn stretch_at_step(minutes: Option<Piece>, first: u16, last: u16, n: u16) -> Option<Stretch>
+    ensures { result ≡ stretch_at_step minutes first last n }
 {
     match minutes {
-        Some(Piece::One(minute)) => Some(by_hours(n, first, last, minute)),
+        Some(Piece::One(minute)) => Some(stretch_by_hours(n, first, last, minute)),
         _ => None,
     }
 }
@@ -112,10 +120,10 @@ fn stretch_of(minutes: Option<Piece>, hours: Option<Piece>) -> Option<Stretch>
     ensures { result ≡ stretch_of minutes hours }
 {
     match hours {
-        Some(Piece::One(hour)) => in_hour(minutes, hour),
-        Some(Piece::Range(first, last)) => in_hours(minutes, first, last),
-        Some(Piece::RangeNth(first, last, n)) => at_step(minutes, first, last, n),
-        Some(Piece::EveryNth(n)) => at_step(minutes, 0, HOURS.saturating_sub(n), n),
+        Some(Piece::One(hour)) => stretch_in_hour(minutes, hour),
+        Some(Piece::Range(first, last)) => stretch_in_hours(minutes, first, last),
+        Some(Piece::RangeNth(first, last, n)) => stretch_at_step(minutes, first, last, n),
+        Some(Piece::EveryNth(n)) => stretch_at_step(minutes, 0, HOURS.saturating_sub(n), n),
         Some(Piece::Every) => None,
         None => None,
     }
@@ -249,7 +257,7 @@ fn write_minutes_and_hours(
 ) -> Result<(), CronError>
     ensures { Appends (minutes_and_hours style minutes.now hours.now) text.old text.new result }
 {
-    write_minutes_head(text, style, minutes, sole(minutes))?;
+    write_minutes_head(text, style, minutes, only_piece(minutes))?;
     write_of_hours(text, style, hours)
 }
 
@@ -388,15 +396,15 @@ fn write_minutes(
 ) -> Result<(), CronError>
     ensures { Appends (minutes_text style minutes.now hours.now) text.old text.new result }
 {
-    if is_every(sole(hours)) {
-        return write_each_hour(text, style, minutes, hours, sole(minutes));
+    if is_every(only_piece(hours)) {
+        return write_each_hour(text, style, minutes, hours, only_piece(minutes));
     }
     write_stretched(
         text,
         style,
         minutes,
         hours,
-        stretch_of(sole(minutes), sole(hours)),
+        stretch_of(only_piece(minutes), only_piece(hours)),
     )
 }
 
@@ -548,9 +556,9 @@ fn write_minute_case(
             if are_times(hours) {
                 return write_times(text, style, Kind::HourAt(minute, second), hours);
             }
-            write_hour_case(text, style, second, minutes, hours, sole(hours))
+            write_hour_case(text, style, second, minutes, hours, only_piece(hours))
         }
-        _ => write_hour_case(text, style, second, minutes, hours, sole(hours)),
+        _ => write_hour_case(text, style, second, minutes, hours, only_piece(hours)),
     }
 }
 
@@ -585,7 +593,7 @@ fn write_many_seconds(
 ) -> Result<(), CronError>
     ensures { Appends (many_seconds style seconds.now minutes.now hours.now one) text.old text.new result }
 {
-    if is_every(sole(minutes)) && is_every(sole(hours)) {
+    if is_every(only_piece(minutes)) && is_every(only_piece(hours)) {
         return write_seconds(text, style, seconds, minutes, hours, one);
     }
     write_parts(text, style, seconds, minutes, hours)
@@ -605,7 +613,7 @@ fn write_second_case(
 {
     match one {
         Some(Piece::One(second)) => {
-            write_minute_case(text, style, second, minutes, hours, sole(minutes))
+            write_minute_case(text, style, second, minutes, hours, only_piece(minutes))
         }
         _ => write_many_seconds(text, style, seconds, minutes, hours, one),
     }
@@ -622,5 +630,5 @@ pub(crate) fn write_time(
 ) -> Result<(), CronError>
     ensures { Appends (time_text style seconds.now minutes.now hours.now) text.old text.new result }
 {
-    write_second_case(text, style, seconds, minutes, hours, sole(seconds))
+    write_second_case(text, style, seconds, minutes, hours, only_piece(seconds))
 }

@@ -1,7 +1,7 @@
 //! Values, pieces and lists in words.
 
 ghost use Rattle.std.specs.Prelude.{◌≡◌, ◌<◌, ◌++◌, true, decimal, length, IsSome};
-ghost use Rattle.croner_summary.specs.Words.{clock_text, every_text, head_step, headed_text, is_year, least_of, left_text, list_text, month_name, nth_text, ordinal, ordinal_end, piece_text, second_text, separator, sole, sole_text, span_text, step_text, term_text, two_places, unit_name, unit_text, units_text, value_text, weekday_name, whole_step};
+ghost use Rattle.croner_summary.specs.Words.{clock_text, every_text, head_step, headed_text, is_year, least_of, left_text, list_text, month_name, nth_text, ordinal, ordinal_end, piece_text, second_text, separator, only_piece, sole_text, span_text, step_text, term_text, two_places, unit_name, unit_text, units_text, value_text, weekday_name, whole_step};
 ghost use Rattle.croner_summary.specs.Private.Appended.{Appends, BeginsList};
 
 use crate::english::{
@@ -409,8 +409,8 @@ pub(crate) fn write_list(
 }
 
 /// The one piece of a phrase, where there is one.
-pub(crate) fn sole(pieces: &[Piece]) -> Option<Piece>
-    ensures { result ≡ sole pieces.now }
+pub(crate) fn only_piece(pieces: &[Piece]) -> Option<Piece>
+    ensures { result ≡ only_piece pieces.now }
 {
     if pieces.len() == 1 {
         Some(pieces[0])
@@ -538,12 +538,12 @@ fn write_headed(
     ensures { Appends (headed_text style unit pieces.now head) text.old text.new result }
 {
     match head {
-        None => write_sole(text, style, unit, pieces, sole(pieces)),
+        None => write_sole(text, style, unit, pieces, only_piece(pieces)),
         Some(n) => {
             write_whole_step(text, style.language, unit, n)?;
             write_term(text, style.language, Term::And)?;
             let others = &pieces[1..];
-            write_sole(text, style, unit, others, sole(others))
+            write_sole(text, style, unit, others, only_piece(others))
         }
     }
 }

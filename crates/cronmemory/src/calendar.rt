@@ -8,7 +8,8 @@ use croner::time::{
 };
 use croner_rows::shown::text;
 use croner_rows::{
-    Caller, Fault, Outcome, Result, are_alike, clock_changes, member, number_at, read_rule, three,
+    Caller, Fault, Outcome, Result, are_alike, clock_changes, member, number_at, read_rule,
+    three_numbers,
 };
 use serde_json::Value;
 use std::alloc::Global;
@@ -21,7 +22,7 @@ const TEXT_BYTES: usize = 64;
 /// Questions about a date: whether its year is a leap year, the year's days, the month's days, and the day of the year.
 /// Also whether all ways of making the date give it; or that there is no such date.
 pub fn calendar(caller: Caller<'_>, question: &Value) -> Result<Outcome> {
-    let (year, month, day) = three(question, "date")?;
+    let (year, month, day) = three_numbers(question, "date")?;
     caller.begin();
     let date = CivilDate::from_ymd(year, month, day);
     let found = CivilDate::from_ymd_opt(year, month, day);
@@ -74,7 +75,7 @@ pub fn weekday(caller: Caller<'_>, question: &Value) -> Result<Outcome> {
 
 /// The time of day of an hour, a minute and a second, or that there is none.
 pub fn clock_face(caller: Caller<'_>, question: &Value) -> Result<Outcome> {
-    let (hour, minute, second) = three(question, "time")?;
+    let (hour, minute, second) = three_numbers(question, "time")?;
     caller.begin();
     let time = CivilTime::from_hms_opt(hour, minute, second);
     caller.end();
@@ -102,8 +103,8 @@ fn is_same_time(time: CivilTime) -> bool {
 
 /// The date and time of six numbers: its text, written into memory reserved before, and its numbers; or its refusal.
 pub fn date_and_time(caller: Caller<'_>, question: &Value) -> Result<Outcome> {
-    let (year, month, day) = three(question, "date")?;
-    let (hour, minute, second) = three(question, "time")?;
+    let (year, month, day) = three_numbers(question, "date")?;
+    let (hour, minute, second) = three_numbers(question, "time")?;
     caller.begin();
     let civil = CivilDateTime::from_ymd_hms(year, month, day, hour, minute, second);
     let found = CivilDateTime::from_ymd_hms_opt(year, month, day, hour, minute, second);

@@ -2,7 +2,7 @@
 
 use crate::calendar::{calendar, clock_face, clock_table, date_and_time, weekday, zone_table};
 use crate::clones::clone_of;
-use crate::iterators::{handed, listing};
+use crate::iterators::{items_of_taken_job, listing};
 use crate::schedulers::call_of_scheduler;
 use crate::searches::{reading, search};
 use crate::texts::{explanation, new_field, parser, questions, to_json, words_of_language};
@@ -28,8 +28,8 @@ pub fn make_calls(caller: Caller<'_>, question: &Value) -> Result<Outcome> {
         "reading" => reading(caller, question),
         "summary" => summaries::summary(caller, question),
         "text of a summary" => summaries::told(caller, question),
-        "display of a summary" => summaries::displayed(caller, question),
-        "is a text whole" => summaries::whole(caller, question),
+        "display of a summary" => summaries::display_summary(caller, question),
+        "is a text whole" => summaries::is_summary_whole(caller, question),
         op => calls_of_runs(caller, question, op),
     }
 }
@@ -38,11 +38,11 @@ fn calls_of_runs(caller: Caller<'_>, question: &Value, op: &str) -> Result<Outco
     match op {
         "search" => search(caller, question),
         "list" => listing(caller, question),
-        "list of a job handed over" => handed(caller, question),
-        "push to a table" => tables::pushed(caller, question),
-        "change of a table" => tables::changed(caller, question),
+        "list of a job handed over" => items_of_taken_job(caller, question),
+        "push to a table" => tables::push_job(caller, question),
+        "change of a table" => tables::change_table(caller, question),
         "jobs of a table" => tables::jobs(caller, question),
-        "questions of a table" => tables::asked(caller, question),
+        "questions of a table" => tables::ask_table(caller, question),
         "search of a table" => tables::search(caller, question),
         "list of a table" => tables::item_at(caller, question, 0),
         "third item of a table" => tables::item_at(caller, question, 2),

@@ -7,8 +7,8 @@ use croner::errors::CronError;
 use croner::time::Resolution;
 use croner::{Cron, CronComponent, CronPattern};
 use croner_rows::{
-    Answer, Caller, Fault, How, Job, Moment, Outcome, OverTime, Result, Runs, Subject, Table, bare,
-    instants, over_time, read_field, shown, text,
+    Answer, Caller, Fault, How, Job, Moment, Outcome, OverTime, Result, Runs, Subject, Table,
+    bare_text, instants, over_time, read_field, shown, text,
 };
 use serde_json::Value;
 use std::alloc::{AllocError, Global};
@@ -56,7 +56,7 @@ impl<T: Moment> Shown for Resolution<T> {
     }
 }
 
-fn copied<S: Shown>(caller: Caller<'_>, original: &S) -> Result<Outcome> {
+fn copy_original<S: Shown>(caller: Caller<'_>, original: &S) -> Result<Outcome> {
     caller.begin();
     let copy: Result<S, AllocError> = original.clone();
     caller.end();
@@ -73,10 +73,10 @@ fn shown_copy<S: Shown>(alloc: Global, copy: Result<S, AllocError>) -> Result<An
 /// A copy, and afterwards what was copied. The kind is what follows `clone of a` in the operation.
 pub fn clone_of(caller: Caller<'_>, question: &Value, kind: &str) -> Result<Outcome> {
     match kind {
-        " field" => copied(caller, &read_field(caller.alloc, question)?),
-        " pattern" => copied(caller, &Job::read(caller.alloc, question)?.cron.pattern),
-        " job" => copied(caller, &Job::read(caller.alloc, question)?.cron),
-        " table" => copied(caller, &Table::read(caller.alloc, question)?.jobs),
+        " field" => copy_original(caller, &read_field(caller.alloc, question)?),
+        " pattern" => copy_original(caller, &Job::read(caller.alloc, question)?.cron.pattern),
+        " job" => copy_original(caller, &Job::read(caller.alloc, question)?.cron),
+        " table" => copy_original(caller, &Table::read(caller.alloc, question)?.jobs),
         "n error" => error_clone(caller, question),
         " time" => over_time(caller, question, &CopyOfTime),
         " resolution" => over_time(caller, question, &CopyOfResolution),
@@ -88,7 +88,7 @@ pub fn clone_of(caller: Caller<'_>, question: &Value, kind: &str) -> Result<Outc
 // A copy of the refusal of a text: its message.
 fn error_clone(caller: Caller<'_>, question: &Value) -> Result<Outcome> {
     match Job::of_text(caller.alloc, question, text(question, "text")?) {
-        Err(Fault::Refused(error)) => copied(caller, &error),
+        Err(Fault::Refused(error)) => copy_original(caller, &error),
         Err(fault) => Err(fault),
         Ok(_) => Err(Fault::Malformed),
     }
@@ -103,7 +103,10 @@ impl OverTime for CopyOfTime {
         caller.begin();
         let copy: Result<T, AllocError> = time.clone();
         caller.end();
-        Outcome::new(shown_time(caller.alloc, copy), bare(caller.alloc, &time))
+        Outcome::new(
+            shown_time(caller.alloc, copy),
+            bare_text(caller.alloc, &time),
+        )
     }
 }
 
@@ -118,7 +121,7 @@ struct CopyOfResolution;
 
 impl OverTime for CopyOfResolution {
     fn outcome<T: Moment>(&self, caller: Caller<'_>, time: T) -> Result<Outcome> {
-        copied(caller, &time.resolve_civil(caller.alloc, time.to_civil())?)
+        copy_original(caller, &time.resolve_civil(caller.alloc, time.to_civil())?)
     }
 }
 

@@ -4,8 +4,8 @@ use croner::CronIterator;
 use croner::time::Direction;
 use croner_rows::shown::add_item;
 use croner_rows::{
-    Answer, Caller, Fault, How, Job, Moment, Outcome, OverTime, Result, Run, Runs, Subject, bare,
-    civil_value, number_at, over_time,
+    Answer, Caller, Fault, How, Job, Moment, Outcome, OverTime, Result, Run, Runs, Subject,
+    bare_text, civil_value, number_at, over_time,
 };
 use serde_json::Value;
 use std::alloc::Global;
@@ -20,7 +20,7 @@ pub fn item_text<T: Moment>(alloc: Global, item: Option<Run<T>>) -> Result<Strin
 
 /// A run as a text.
 pub fn run_text<T: Moment>(alloc: Global, run: &Run<T>) -> Result<String> {
-    let instant = bare(alloc, &run.instant)?;
+    let instant = bare_text(alloc, &run.instant)?;
     match &run.places {
         None => Ok(instant),
         Some(places) => Ok(format!(in alloc; "{instant} {places:?}")?),
@@ -58,7 +58,7 @@ fn items<T: Moment>(
         add_item(&mut items, item.as_str())?;
     }
     let after = with_fault(caller.alloc, items.as_str(), runs.fault_name());
-    Outcome::new(or_lacking(items, lacked), after)
+    Outcome::new(text_or_lacking(items, lacked), after)
 }
 
 fn with_fault(alloc: Global, items: &str, fault: &str) -> Result<String> {
@@ -66,7 +66,7 @@ fn with_fault(alloc: Global, items: &str, fault: &str) -> Result<String> {
 }
 
 /// A text, or lack of memory where a call lacked it.
-pub fn or_lacking(text: String, lacked: bool) -> Result<Answer> {
+pub fn text_or_lacking(text: String, lacked: bool) -> Result<Answer> {
     if lacked {
         return Err(Fault::OutOfMemory);
     }
@@ -105,7 +105,7 @@ pub fn listing(caller: Caller<'_>, question: &Value) -> Result<Outcome> {
 }
 
 /// The items of an iterator that takes over its job, which takes no memory in civil time.
-pub fn handed(caller: Caller<'_>, question: &Value) -> Result<Outcome> {
+pub fn items_of_taken_job(caller: Caller<'_>, question: &Value) -> Result<Outcome> {
     let start = civil_value(question, "start")?;
     let count = number_at(question, "count")?;
     let cron = Job::read(caller.alloc, question)?.into_cron();

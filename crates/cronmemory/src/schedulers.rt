@@ -23,7 +23,7 @@ impl<'q> OverClocks for OneCall<'q> {
         let mut scheduler = new_scheduler(caller.alloc, self.question)?;
         let named = Named { patterns, clocks };
         let _ = call_in_turn(
-            Caller::unmarked(caller.alloc),
+            Caller::without_marks(caller.alloc),
             &mut scheduler,
             &named,
             before,
@@ -43,8 +43,8 @@ fn one_call<T: Clocked>(
     match call_scheduler(caller, scheduler, named, call) {
         Err(Fault::OutOfMemory) => {
             let is_same = standings(caller.alloc, scheduler)? == before;
-            let _ = call_scheduler(Caller::unmarked(caller.alloc), scheduler, named, call)?;
-            with_calls_behind(
+            let _ = call_scheduler(Caller::without_marks(caller.alloc), scheduler, named, call)?;
+            with_calls_after(
                 caller,
                 scheduler,
                 named,
@@ -53,11 +53,11 @@ fn one_call<T: Clocked>(
                 is_same,
             )
         }
-        answer => with_calls_behind(caller, scheduler, named, question, answer, true),
+        answer => with_calls_after(caller, scheduler, named, question, answer, true),
     }
 }
 
-fn with_calls_behind<T: Clocked>(
+fn with_calls_after<T: Clocked>(
     caller: Caller<'_>,
     scheduler: &mut Scheduler<FlakyJob, T>,
     named: &Named<'_, T>,
@@ -65,8 +65,8 @@ fn with_calls_behind<T: Clocked>(
     answer: Result<Value>,
     is_same: bool,
 ) -> Result<Outcome> {
-    let (alloc, behind) = (caller.alloc, list(question, "behind")?);
-    let answers = call_in_turn(Caller::unmarked(alloc), scheduler, named, behind)?;
+    let (alloc, calls) = (caller.alloc, list(question, "behind")?);
+    let answers = call_in_turn(Caller::without_marks(alloc), scheduler, named, calls)?;
     let after = format!(in alloc; "{is_same} {answers}");
     Outcome::new(answer_of(answer), Ok(after?))
 }

@@ -5,8 +5,8 @@ use crate::tables::texts_of;
 use croner::errors::CronError;
 use croner::time::Direction;
 use croner_rows::{
-    Answer, Caller, Job, Moment, Outcome, OverTime, Result, Run, Subject, bare, direction, flag,
-    over_time, time_and_job,
+    Answer, Caller, Job, Moment, Outcome, OverTime, Result, Run, Subject, bare_text, direction,
+    flag, over_time, time_and_job,
 };
 use serde_json::Value;
 use std::alloc::Global;
@@ -27,11 +27,11 @@ impl<'j> OverTime for Searching<'j> {
             .run_from(&start, self.inclusive, self.direction);
         caller.end();
         let after = start_and_subject(caller.alloc, &start, self.subject);
-        Outcome::new(found(caller.alloc, run), after)
+        Outcome::new(found_answer(caller.alloc, run), after)
     }
 }
 
-fn found<T: Moment>(alloc: Global, run: Result<Run<T>, CronError>) -> Result<Answer> {
+fn found_answer<T: Moment>(alloc: Global, run: Result<Run<T>, CronError>) -> Result<Answer> {
     let run = run?;
     Ok(Answer::Text(run_text(alloc, &run)?))
 }
@@ -40,7 +40,10 @@ fn start_and_subject<T: Moment>(alloc: Global, start: &T, subject: Subject<'_>) 
     match subject {
         Subject::Job(job) => time_and_job(alloc, start, job),
         Subject::Table(table) => {
-            let (start, texts) = (bare(alloc, start)?, texts_of(alloc, table, table.len())?);
+            let (start, texts) = (
+                bare_text(alloc, start)?,
+                texts_of(alloc, table, table.len())?,
+            );
             Ok(format!(in alloc; "{start} [{texts}]")?)
         }
     }
@@ -74,7 +77,7 @@ impl OverTime for Showing {
         caller.end();
         let weekday = weekday.num_days_from_sunday();
         let text = format!(in caller.alloc; "[{civil},{weekday},{same}]")?;
-        Outcome::new(Ok(Answer::Text(text)), bare(caller.alloc, &time))
+        Outcome::new(Ok(Answer::Text(text)), bare_text(caller.alloc, &time))
     }
 }
 

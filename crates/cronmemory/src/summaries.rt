@@ -57,7 +57,7 @@ fn told_answer(text: Result<String, CronError>) -> Result<Answer> {
 }
 
 /// A summary as it is shown, and the summary afterwards.
-pub fn displayed(caller: Caller<'_>, question: &Value) -> Result<Outcome> {
+pub fn display_summary(caller: Caller<'_>, question: &Value) -> Result<Outcome> {
     let summary = summary_of(caller.alloc, question)?;
     caller.begin();
     let text = format!(in caller.alloc; "{summary}");
@@ -70,7 +70,7 @@ fn displayed_answer(text: Result<String, AllocError>) -> Result<Answer> {
 }
 
 /// Whether the text of a summary in a language leaves nothing out, and the summary afterwards.
-pub fn whole(caller: Caller<'_>, question: &Value) -> Result<Outcome> {
+pub fn is_summary_whole(caller: Caller<'_>, question: &Value) -> Result<Outcome> {
     let language = language_of(question)?;
     let summary = summary_of(caller.alloc, question)?;
     caller.begin();

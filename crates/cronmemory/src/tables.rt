@@ -1,6 +1,6 @@
 //! Tables of patterns: their making, their changes, their searches and their iterators.
 
-use crate::iterators::{item_text, or_lacking};
+use crate::iterators::{item_text, text_or_lacking};
 use crate::searches::search_of;
 use croner::Cron;
 use croner::crontable::{CronTable, CronTableIterator};
@@ -30,7 +30,7 @@ pub fn texts_of(alloc: Global, table: &CronTable, count: usize) -> Result<String
 
 /// One more job in a table, that of `text`. Afterwards the texts that were there before, and whether there are as many jobs as
 /// the answer says.
-pub fn pushed(caller: Caller<'_>, question: &Value) -> Result<Outcome> {
+pub fn push_job(caller: Caller<'_>, question: &Value) -> Result<Outcome> {
     let mut table = Table::read(caller.alloc, question)?;
     let job = Job::read(caller.alloc, question)?.into_cron();
     push_to(caller, &mut table.jobs, job)
@@ -57,7 +57,7 @@ fn texts_and_truth(alloc: Global, table: &CronTable, count: usize, truth: bool) 
 }
 
 /// A change of a table. The answer is the text of the job that comes out, or none. Afterwards the texts of the jobs.
-pub fn changed(caller: Caller<'_>, question: &Value) -> Result<Outcome> {
+pub fn change_table(caller: Caller<'_>, question: &Value) -> Result<Outcome> {
     let mut table = Table::read(caller.alloc, question)?;
     let out = table.change(caller, question)?;
     let after = texts_of(caller.alloc, &table.jobs, table.jobs.len());
@@ -92,7 +92,7 @@ fn count_and_bytes(table: &CronTable) -> (usize, usize) {
 }
 
 /// A new table, questions of a table about a place, and its iterators from a civil start.
-pub fn asked(caller: Caller<'_>, question: &Value) -> Result<Outcome> {
+pub fn ask_table(caller: Caller<'_>, question: &Value) -> Result<Outcome> {
     let place = number_at(question, "place")?;
     let start = civil_value(question, "start")?;
     let table = Table::read(caller.alloc, question)?;
@@ -155,7 +155,7 @@ fn two_items<T: Moment>(caller: Caller<'_>, runs: &mut Runs<'_, T>) -> Result<Ou
     }
     let first = item_text(caller.alloc, item)?;
     let after = with_next(caller.alloc, first.as_str(), runs);
-    Outcome::new(or_lacking(first, lacked), after)
+    Outcome::new(text_or_lacking(first, lacked), after)
 }
 
 fn with_next<T: Moment>(alloc: Global, first: &str, runs: &mut Runs<'_, T>) -> Result<String> {

@@ -8,7 +8,7 @@ use croner::parser::{CronParser, PatternFault};
 use croner::{Cron, CronComponent};
 use croner_rows::{
     Answer, Caller, Fault, Job, Outcome, Result, are_alike, civil_value, member, new_component,
-    printed, read_parser, shown, text,
+    printed_text, read_parser, shown, text,
 };
 use jiff::civil::DateTime;
 use serde_json::Value;
@@ -72,7 +72,7 @@ pub fn to_json(caller: Caller<'_>, question: &Value) -> Result<Outcome> {
 
 fn printed_json(alloc: Global, json: Result<Value, CronError>) -> Result<Answer> {
     let json = json?;
-    Ok(Answer::Text(printed(alloc, &json)?))
+    Ok(Answer::Text(printed_text(alloc, &json)?))
 }
 
 /// Questions about a job and a date and time that take no memory: whether the job names it, the kind of job, whether the fields
@@ -81,14 +81,14 @@ fn printed_json(alloc: Global, json: Result<Value, CronError>) -> Result<Answer>
 pub fn questions(caller: Caller<'_>, question: &Value) -> Result<Outcome> {
     let at = civil_value(question, "at")?;
     let mut job = Job::read(caller.alloc, question)?;
-    let answer = asked(caller, &job.cron, &at);
+    let answer = match_answer(caller, &job.cron, &at);
     caller.begin();
     job.cron.pattern.set_flags(false, false, true);
     caller.end();
     Outcome::new(answer, shown::job(caller.alloc, &job.cron))
 }
 
-fn asked(caller: Caller<'_>, cron: &Cron, at: &DateTime) -> Result<Answer> {
+fn match_answer(caller: Caller<'_>, cron: &Cron, at: &DateTime) -> Result<Answer> {
     let pattern = &cron.pattern;
     caller.begin();
     let matching = is_true(&cron.is_time_matching(at));

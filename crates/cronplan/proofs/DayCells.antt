@@ -36,9 +36,9 @@ date_number (pos a) h = record { low = omega (arith, ints); high = omega (arith,
 date_number (negsuc a) h = record { low = omega (arith, ints, h); high = omega (arith, ints) }
 
 -- and so are the dates beside them
-pub date_behind : (w r : ℤ) → FitsSigned w64 w → r ≡ date_of w +ℤ pos 1 → IsDateNumber r
-date_behind (pos a) r h e = record { low = omega (arith, ints, e); high = omega (arith, ints, h, e) }
-date_behind (negsuc a) r h e = record { low = omega (arith, ints, h, e); high = omega (arith, ints, e) }
+pub date_after : (w r : ℤ) → FitsSigned w64 w → r ≡ date_of w +ℤ pos 1 → IsDateNumber r
+date_after (pos a) r h e = record { low = omega (arith, ints, e); high = omega (arith, ints, h, e) }
+date_after (negsuc a) r h e = record { low = omega (arith, ints, h, e); high = omega (arith, ints, e) }
 
 pub date_before : (w r : ℤ) → FitsSigned w64 w → r ≡ date_of w -ℤ pos 1 → IsDateNumber r
 date_before (pos a) r h e = record { low = omega (arith, ints, e); high = omega (arith, ints, h, e) }

@@ -11,7 +11,7 @@ use Rattle.cronplan.specs.Jobs.{Seen, shown_of, named_of, end_with}
 use Rattle.cronplan.specs.Moments.{at_second, fullest_cmp}
 use Rattle.cronplan.specs.Private.Gaps.{gaps}
 use Rattle.cronplan.specs.Spans.{is_span}
-use Rattle.cronplan.specs.Starts.{second_at, earlier}
+use Rattle.cronplan.specs.Starts.{second_at, earlier_of}
 use Rattle.cronplan.specs.Windows.{seconds_in}
 
 -- a start of a job so many times, on a clock that shows UTC
@@ -61,7 +61,7 @@ spans : (is_span (pos 0) (pos 1) ≡ true) × (is_span (pos 1) (pos 0) ≡ false
 spans = (refl, refl)
 
 -- of two starts at most the third is too many: the span ends at it, or earlier
-cut : (earlier (pos 86_400) (second_at day 2) ≡ pos 16_200) × (earlier (pos 86_400) (second_at day 3) ≡ pos 86_400)
+cut : (earlier_of (pos 86_400) (second_at day 2) ≡ pos 16_200) × (earlier_of (pos 86_400) (second_at day 3) ≡ pos 86_400)
 cut = (refl, refl)
 
 -- a job that is shown, and one that is named with its four starts

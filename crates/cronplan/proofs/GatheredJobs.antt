@@ -12,7 +12,7 @@ use Rattle.cronplan.specs.declared.jobs.Gathering.{Gathering}
 use Rattle.cronplan.specs.declared.listing.Schedule.{Schedule}
 use Rattle.cronplan.specs.declared.span.Span.{Span}
 use Rattle.cronplan.specs.declared.start.JobStart.{JobStart}
-use Rattle.cronplan.specs.Starts.{earlier}
+use Rattle.cronplan.specs.Starts.{earlier_of}
 use Rattle.cronplan.specs.Counts.{count_of}
 use Rattle.cronplan.specs.Jobs.{Seen, IsSeen, AreSeen, shown_of, named_of, end_with}
 use Rattle.cronplan.specs.Listed.{IsStartIn}
@@ -103,7 +103,7 @@ adds_named z span most place j seen old new is mark n = record {
   shown = n.shown ∙ sym (append-nil old.shown.items) ∙ ap (λ (b : Bool). old.shown.items ++ cond b [] seen.starts) (sym mark);
   named = n.named ∙ ap (λ (k : ℕ). old.frequent.items ++ record { job = k; starts = count_of seen.starts } ∷ []) (sym is.place_is)
       ∙ ap (λ (b : Bool). old.frequent.items ++ cond b (record { job = seen.place; starts = count_of seen.starts } ∷ []) []) (sym mark);
-  end = n.end ∙ ap (λ (b : Bool). cond b old.end (earlier old.end (Some seen.end))) (sym mark);
+  end = n.end ∙ ap (λ (b : Bool). cond b old.end (earlier_of old.end (Some seen.end))) (sym mark);
 }
 
 pub adds_shown : (z : Zone) (span : Span) (most : Option ℕ) (place : ℕ) (j : Schedule) (seen : Seen) (old new : Gathering) → IsSeen z span most place j seen → seen.is_frequent ≡ false
@@ -113,5 +113,5 @@ adds_shown z span most place j seen old new is mark n = record {
   is = is;
   shown = n.shown ∙ ap (λ (b : Bool). old.shown.items ++ cond b [] seen.starts) (sym mark);
   named = n.named ∙ sym (append-nil old.frequent.items) ∙ ap (λ (b : Bool). old.frequent.items ++ cond b (record { job = seen.place; starts = count_of seen.starts } ∷ []) []) (sym mark);
-  end = n.end ∙ ap (λ (b : Bool). cond b old.end (earlier old.end (Some seen.end))) (sym mark);
+  end = n.end ∙ ap (λ (b : Bool). cond b old.end (earlier_of old.end (Some seen.end))) (sym mark);
 }

@@ -190,7 +190,7 @@ module _ (cron : Cron) (after : TableTime) (span : Span) (place : ℕ) (at : aft
           | inl has ↦ has
           | inr same ↦ absurd (let e : next ≡ i = same in omega (arith, ints, to, past, e))
         ]
-        | inr on ↦ absurd (let lt : next <ℤ i = All-contains (λ x. x <ℤ i) (run_seconds times ++ next ∷ []) next (h.rest.behind i on) (Contains-push (run_seconds times) next) in omega (arith, ints, lt, to, past))
+        | inr on ↦ absurd (let lt : next <ℤ i = All-contains (λ x. x <ℤ i) (run_seconds times ++ next ∷ []) next (h.rest.later i on) (Contains-push (run_seconds times) next) in omega (arith, ints, lt, to, past))
       ]
   no-run-left-out times listing.Over new limit kept some h not is i from before run in_span = h.ended.0 i (left-run i from run) in_span
   no-run-left-out times listing.Refused new limit kept some h not is i from before run in_span = absurd (not refl)

@@ -21,7 +21,7 @@ use Rattle.cronplan.specs.declared.start.JobStart.{JobStart}
 use Rattle.cronplan.specs.declared.together.Meeting.{Meeting}
 use Rattle.cronplan.specs.declared.together.Together.{Together}
 use Rattle.cronplan.specs.Moments.{at_second}
-use Rattle.cronplan.specs.Private.Meetings.{seen_of, seen_at, seen_if_several, is_lower, alike, jobs_in, sets_in, AreMeetings, AreMeetingsUntil, AreByJobs, IsNewGroup, IsSetOf, AreSetsUntil, AreSets}
+use Rattle.cronplan.specs.Private.Meetings.{seen_of, seen_at, seen_if_several, is_lower, meetings_with_jobs, jobs_in, sets_in, AreMeetings, AreMeetingsUntil, AreByJobs, IsNewGroup, IsSetOf, AreSetsUntil, AreSets}
 use Rattle.cronplan.specs.Starts.{start_cmp}
 use Rattle.cronplan.specs.Together.{jobs_at, has_several, moments_with, together_cmp, IsTogether, AreTogether}
 use Rattle.cronplan.proofs.AlikeElements.{all_less_before, tied_to_last, alike_from, first_alike}
@@ -127,14 +127,14 @@ module _ (starts : List JobStart) (moments : List Moment) (ms : List Meeting) (s
       (All-weaker (λ m. has_several starts m ≡ true) (λ m. P (jobs_at m.second starts)) holds those (filter_passes (has_several starts) moments))))
 
   -- the moments of those with the jobs of one are all at which just these start
-  moments_alike : (x : Meeting) → 1 < length x.jobs.items → map (λ m. m.moment) (alike x ms) ≡ moments_with starts x.jobs.items moments
+  moments_alike : (x : Meeting) → 1 < length x.jobs.items → map (λ m. m.moment) (meetings_with_jobs x ms) ≡ moments_with starts x.jobs.items moments
   moments_alike x several =
       let q : List ℕ × Moment → Bool = λ v. not (is_lt (slice_cmp nat_cmp x.jobs.items v.0)) && not (is_lt (slice_cmp nat_cmp v.0 x.jobs.items)) in
       let those : List Moment = filter (has_several starts) moments in
       let wide : (m : Moment) → q (seen_at starts m) ≡ true → has_several starts m ≡ true = λ m e.
       lt-ltb 1 (length (jobs_at m.second starts))
       (omega (arith, several, as_long nat_eq (jobs_at m.second starts) x.jobs.items (sym (neither_lower x.jobs.items (jobs_at m.second starts)) ∙ e))) in
-      sym (map-map (λ (v : List ℕ × Moment). v.1) seen_of (alike x ms))
+      sym (map-map (λ (v : List ℕ × Moment). v.1) seen_of (meetings_with_jobs x ms))
       ∙ ap (map (λ (v : List ℕ × Moment). v.1)) (map-filter seen_of q ms ∙ ap (filter q) seen ∙ sym (map-filter (seen_at starts) q those))
       ∙ map-map (λ (v : List ℕ × Moment). v.1) (seen_at starts) (filter (λ m. q (seen_at starts m)) those)
       ∙ map-id (filter (λ m. q (seen_at starts m)) those)
@@ -176,13 +176,13 @@ had_lower ms up k d a b some inside a_is b_is not_less =
 
 -- those from it on with its jobs are all with them
 pub new_group : (ms group : List Meeting) (k : ℕ) (d x : Meeting) → k < length ms → x ≡ get_or ms k x → All (λ m. is_lower m (get_or ms k d) ≡ true) (take k ms)
-    → group ≡ alike x (drop k ms) → IsNewGroup ms k (get_or ms k d) group
+    → group ≡ meetings_with_jobs x (drop k ms) → IsNewGroup ms k (get_or ms k d) group
 new_group ms group k d x inside x_is lower e =
     let y : Meeting = get_or ms k d in
-    let is : group ≡ alike y (drop k ms) = e ∙ ap (λ (z : Meeting). alike z (drop k ms)) (get_or_read ms k x inside x_is d) in
+    let is : group ≡ meetings_with_jobs y (drop k ms) = e ∙ ap (λ (z : Meeting). meetings_with_jobs z (drop k ms)) (get_or_read ms k x inside x_is d) in
     record {
       group_is = is ∙ alike_from is_lower lower_weak y ms k lower;
-      first_is = ap (λ (zs : List Meeting). slice_get zs 0) (is ∙ ap (alike y) (drop_more ms k d inside)) ∙ first_alike is_lower lower_weak y (drop (k + 1) ms);
+      first_is = ap (λ (zs : List Meeting). slice_get zs 0) (is ∙ ap (meetings_with_jobs y) (drop_more ms k d inside)) ∙ first_alike is_lower lower_weak y (drop (k + 1) ms);
       lower = lower;
     }
 
@@ -258,7 +258,7 @@ next_sets ms sets k d t inside lower jobs one h = record {
       false≢true (sym (ap is_lt (tied_itself nat_list_cmp_total new)) ∙ less)
 
 -- the set of a meeting that is the first of its group
-pub set_is : (ms group : List Meeting) (x : Meeting) (t : Together) → Contains ms x → group ≡ alike x ms → slice_get group 0 ≡ Some x → t.jobs.items ≡ x.jobs.items → t.moments ≡ length group
+pub set_is : (ms group : List Meeting) (x : Meeting) (t : Together) → Contains ms x → group ≡ meetings_with_jobs x ms → slice_get group 0 ≡ Some x → t.jobs.items ≡ x.jobs.items → t.moments ≡ length group
     → t.first ≡ x.moment → IsSetOf ms t
 set_is ms group x t has is first jobs count moment = record {
   meeting = x;
@@ -296,12 +296,12 @@ are_together starts ms sets ordered up by all same order = record {
       All-contains (λ (m : Meeting). 1 < length m.jobs.items) ms x (of_meetings (λ js. 1 < length js) (λ m e. ltb-true 1 (length (jobs_at m.second starts)) e)) h.has in
       let rise : IsStrictlyIncreasing x.jobs.items =
       All-contains (λ (m : Meeting). IsStrictlyIncreasing m.jobs.items) ms x (of_meetings IsStrictlyIncreasing (λ m e. jobs_rise m.second starts up)) h.has in
-      let those : map (λ m. m.moment) (alike x ms) ≡ moments_with starts x.jobs.items held =
+      let those : map (λ m. m.moment) (meetings_with_jobs x ms) ≡ moments_with starts x.jobs.items held =
       ap (map (λ (m : Meeting). m.moment)) (by.stable x) ∙ moments_alike starts held by.first by.are_meetings.seen x several in
       record {
         several = subst (λ (js : List ℕ). 1 < length js) (sym h.jobs_are) several;
         rise = subst IsStrictlyIncreasing (sym h.jobs_are) rise;
-        count = h.count_is ∙ sym (length-map (alike x ms) (λ (m : Meeting). m.moment)) ∙ ap (λ (xs : List Moment). length xs) those
+        count = h.count_is ∙ sym (length-map (meetings_with_jobs x ms) (λ (m : Meeting). m.moment)) ∙ ap (λ (xs : List Moment). length xs) those
             ∙ ap (λ (js : List ℕ). length (moments_with starts js held)) (sym h.jobs_are);
         first = ap (λ (js : List ℕ). slice_get (moments_with starts js held) 0) h.jobs_are ∙ ap (λ (xs : List Moment). slice_get xs 0) (sym those) ∙ h.first_is;
       }

@@ -12,5 +12,6 @@ pub mod GatheredJobs
 pub mod JobListings
 pub mod JobSets
 pub mod MomentStarts
+pub mod OtherClocks
 pub mod SpanSeconds
 pub mod StartOrder

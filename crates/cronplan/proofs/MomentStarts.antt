@@ -46,8 +46,8 @@ at_itself : (i t : ℤ) → i ≤ℤ t → t ≤ℤ i → int_eq t i ≡ true
 at_itself i t low high = grind (arith, ints)
 
 -- those before the second leave none of theirs
-pub behind_earlier : (i : ℤ) (xs : List JobStart) (k : ℕ) → All (λ s. s.second <ℤ i) (take k xs) → at_second i (drop k xs) ≡ at_second i xs
-behind_earlier i xs k h =
+pub after_earlier : (i : ℤ) (xs : List JobStart) (k : ℕ) → All (λ s. s.second <ℤ i) (take k xs) → at_second i (drop k xs) ≡ at_second i xs
+after_earlier i xs k h =
     let p : JobStart → Bool = λ s. int_eq s.second i in
     let none : filter p (take k xs) ≡ [] = filter_none p (take k xs) (All-weaker (λ s. s.second <ℤ i) (λ s. p s ≡ false) (λ s lt. not_at i s.second lt) (take k xs) h) in
     sym (ap (filter p) (sym (take-append-drop k xs)) ∙ filter-append p (take k xs) (drop k xs) ∙ ap (λ ys. ys ++ filter p (drop k xs)) none)

@@ -10,7 +10,7 @@ use Rattle.std.specs.Cmp.{IsTotalOrder, IsStrictWeakOrder}
 use Rattle.std.specs.List.{All}
 use Rattle.std.specs.List.Sorted.{IsSorted, IsPermutation}
 use Rattle.cronplan.specs.declared.start.JobStart.{JobStart}
-use Rattle.cronplan.specs.Starts.{start_cmp, seconds_of, second_at, earlier, most_starts, IsMerged}
+use Rattle.cronplan.specs.Starts.{start_cmp, seconds_of, second_at, earlier_of, most_starts, IsMerged}
 use Rattle.cronplan.proofs.FilteredLists.{filter_none, All-from_map}
 use Rattle.cronplan.proofs.GapWindows.{Climbs}
 
@@ -41,39 +41,39 @@ climbs (x ∷ y ∷ ys) up =
 pub to_seconds : (P : ℤ → Type 0) (xs : List JobStart) → All (λ (s : JobStart). P s.second) xs → All P (seconds_of xs)
 to_seconds P xs h = All-map P (λ (s : JobStart). s.second) xs h
 
-earlier-le : (end i : ℤ) → earlier end (Some i) ≤ℤ i
-earlier-le end i = at (int_lt i end) refl where
+earlier_of-le : (end i : ℤ) → earlier_of end (Some i) ≤ℤ i
+earlier_of-le end i = at (int_lt i end) refl where
   at : (b : Bool) → int_lt i end ≡ b → cond b i end ≤ℤ i
   at true h = omega (arith, ints)
   at false h = grind (arith, ints)
 
 -- after the start at a place none is earlier
-late : (xs : List JobStart) (m : ℕ) (end : ℤ) → Climbs (seconds_of xs) → All (λ (s : JobStart). earlier end (second_at xs m) ≤ℤ s.second) (drop m xs)
+late : (xs : List JobStart) (m : ℕ) (end : ℤ) → Climbs (seconds_of xs) → All (λ (s : JobStart). earlier_of end (second_at xs m) ≤ℤ s.second) (drop m xs)
 late [] zero end up = All-nil (λ (s : JobStart). end ≤ℤ s.second)
 late [] (suc m) end up = All-nil (λ (s : JobStart). end ≤ℤ s.second)
 late (x ∷ xs) zero end up =
-    let le : earlier end (Some x.second) ≤ℤ x.second = earlier-le end x.second in
-    All-cons (λ (s : JobStart). earlier end (Some x.second) ≤ℤ s.second) x xs le
-    (All-from_map (λ (s : JobStart). s.second) (λ t. earlier end (Some x.second) ≤ℤ t) xs
-    (All-weaker (λ t. x.second ≤ℤ t) (λ t. earlier end (Some x.second) ≤ℤ t) (λ t h. omega (arith, ints, le, h)) (seconds_of xs) up.0))
+    let le : earlier_of end (Some x.second) ≤ℤ x.second = earlier_of-le end x.second in
+    All-cons (λ (s : JobStart). earlier_of end (Some x.second) ≤ℤ s.second) x xs le
+    (All-from_map (λ (s : JobStart). s.second) (λ t. earlier_of end (Some x.second) ≤ℤ t) xs
+    (All-weaker (λ t. x.second ≤ℤ t) (λ t. earlier_of end (Some x.second) ≤ℤ t) (λ t h. omega (arith, ints, le, h)) (seconds_of xs) up.0))
 late (x ∷ xs) (suc m) end up = late xs m end up.1
 
 not_before : (i kept : ℤ) → kept ≤ℤ i → int_lt i kept ≡ false
 not_before i kept le = grind (arith, ints)
 
 -- those before such an end are among the first ones
-first_ones : (xs : List JobStart) (m : ℕ) (end kept : ℤ) → IsSorted start_cmp xs → kept ≡ earlier end (second_at xs m)
+first_ones : (xs : List JobStart) (m : ℕ) (end kept : ℤ) → IsSorted start_cmp xs → kept ≡ earlier_of end (second_at xs m)
     → filter (λ (s : JobStart). int_lt s.second kept) xs ≡ filter (λ (s : JobStart). int_lt s.second kept) (take m xs)
 first_ones xs m end kept up e =
     let p : JobStart → Bool = λ s. int_lt s.second kept in
-    let behind : All (λ (s : JobStart). kept ≤ℤ s.second) (drop m xs) =
+    let after : All (λ (s : JobStart). kept ≤ℤ s.second) (drop m xs) =
     subst (λ (i : ℤ). All (λ (s : JobStart). i ≤ℤ s.second) (drop m xs)) (sym e) (late xs m end (climbs xs up)) in
     let none : filter p (drop m xs) ≡ [] =
-    filter_none p (drop m xs) (All-weaker (λ (s : JobStart). kept ≤ℤ s.second) (λ (s : JobStart). p s ≡ false) (λ s le. not_before s.second kept le) (drop m xs) behind) in
+    filter_none p (drop m xs) (All-weaker (λ (s : JobStart). kept ≤ℤ s.second) (λ (s : JobStart). p s ≡ false) (λ s le. not_before s.second kept le) (drop m xs) after) in
     ap (filter p) (sym (take-append-drop m xs)) ∙ filter-append p (take m xs) (drop m xs) ∙ ap (λ ys. filter p (take m xs) ++ ys) none ∙ append-nil (filter p (take m xs))
 
 pub merged_are : (all ordered cut starts : List JobStart) (end kept : ℤ) → IsPermutation all ordered → IsSorted start_cmp ordered
-    → kept ≡ earlier end (second_at ordered most_starts) → cut ≡ take most_starts ordered → starts ≡ filter (λ (s : JobStart). int_lt s.second kept) cut
+    → kept ≡ earlier_of end (second_at ordered most_starts) → cut ≡ take most_starts ordered → starts ≡ filter (λ (s : JobStart). int_lt s.second kept) cut
     → IsMerged all end starts kept
 merged_are all ordered cut starts end kept same order e f g = record {
   ordered = ordered;
@@ -95,7 +95,7 @@ merged_all P all starts end kept h every =
     (All-filter (λ (s : JobStart). int_lt s.second kept) P h.ordered (All-permutation P all h.ordered h.same every))
 
 -- where all come from a second on, such an end is no earlier than that second, and no later than the end that was given
-pub earlier_late : (xs : List JobStart) (m : ℕ) (first end : ℤ) → All (λ (s : JobStart). first ≤ℤ s.second) xs → first ≤ℤ end → first ≤ℤ earlier end (second_at xs m)
+pub earlier_late : (xs : List JobStart) (m : ℕ) (first end : ℤ) → All (λ (s : JobStart). first ≤ℤ s.second) xs → first ≤ℤ end → first ≤ℤ earlier_of end (second_at xs m)
 earlier_late [] zero first end h le = le
 earlier_late [] (suc m) first end h le = le
 earlier_late (x ∷ xs) zero first end h le = at (int_lt x.second end) where
@@ -104,7 +104,7 @@ earlier_late (x ∷ xs) zero first end h le = at (int_lt x.second end) where
   at false = le
 earlier_late (x ∷ xs) (suc m) first end h le = earlier_late xs m first end (All-tail (λ (s : JobStart). first ≤ℤ s.second) x xs h) le
 
-pub earlier_early : (end : ℤ) (o : Option ℤ) → earlier end o ≤ℤ end
+pub earlier_early : (end : ℤ) (o : Option ℤ) → earlier_of end o ≤ℤ end
 earlier_early end None = omega (arith, ints)
 earlier_early end (Some i) = at (int_lt i end) refl where
   at : (b : Bool) → int_lt i end ≡ b → cond b i end ≤ℤ end

@@ -27,12 +27,12 @@ abbrev pub or_fuller : Option Moment → Moment → Option Moment
 or_fuller None m = Some m
 or_fuller (Some other) m = if nat_le m.starts other.starts then Some other else Some m
 
-abbrev pub fuller : ℤ → Option Moment → Moment → Option Moment
-fuller date fullest m = if int_eq (date_of m.wall) date then or_fuller fullest m else fullest
+abbrev pub fuller_moment : ℤ → Option Moment → Moment → Option Moment
+fuller_moment date fullest m = if int_eq (date_of m.wall) date then or_fuller fullest m else fullest
 
 -- the moment on a date that has most starts, and of equal ones the first
 abbrev pub fullest_on : ℤ → List Moment → Option Moment
-fullest_on date moments = fold (fuller date) None moments
+fullest_on date moments = fold (fuller_moment date) None moments
 
 -- a date, with how many starts there are on it
 pub record IsDay (starts : List JobStart) (moments : List Moment) (changes : List ClockChange) (date : ℤ) (day : Day) : Type 0 where

@@ -16,7 +16,7 @@ use Rattle.cronplan.specs.Days.{first_date, last_date, dates_between}
 abbrev pub dates_of : Zone → Span → List JobStart → DateRange
 dates_of z span starts = record { first = first_date z span starts; last = last_date z span starts }
 
--- the dates that lie wholly in a span: those behind the date that the clock shows the second before it, up to the one before the date that it
+-- the dates that lie wholly in a span: those after the date that the clock shows the second before it, up to the one before the date that it
 -- shows at its end
 abbrev pub whole_dates : Zone → Span → DateRange
 whole_dates z span = record { first = date_of (z.reads (span.first -ℤ pos 1)) +ℤ pos 1; last = date_of (z.reads span.end) -ℤ pos 1 }
@@ -39,7 +39,7 @@ is_same_day other s = int_eq (date_of s.wall) (date_of other.wall) && s.job == o
 abbrev pub is_same_job : JobStart → JobStart → Bool
 is_same_job other s = s.job == other.job
 
--- a start behind those that were found, if none of these is like it
+-- a start after those that were found, if none of these is like it
 abbrev pub with_new : (JobStart → JobStart → Bool) → List JobStart → JobStart → List JobStart
 with_new like found s = if list_any (like s) found then found else found ++ s ∷ []
 

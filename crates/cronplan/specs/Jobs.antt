@@ -8,7 +8,7 @@ use Rattle.cronplan.specs.declared.span.Span.{Span}
 use Rattle.cronplan.specs.declared.start.JobStart.{JobStart}
 use Rattle.cronplan.specs.Counts.{count_of, IsFrequent}
 use Rattle.cronplan.specs.Listed.{ListsJob}
-use Rattle.cronplan.specs.Starts.{earlier, Merges}
+use Rattle.cronplan.specs.Starts.{earlier_of, Merges}
 
 -- of a job: its place, its starts in the span, up to where none is left out of them, and whether it is too frequent to be shown
 pub record Seen : Type 0 where
@@ -44,7 +44,7 @@ named_of seen = if seen.is_frequent then record { job = seen.place; starts = cou
 
 -- the starts of jobs that are shown are known up to the earliest of the ends of theirs
 abbrev pub end_with : ℤ → Seen → ℤ
-end_with end seen = if seen.is_frequent then end else earlier end (Some seen.end)
+end_with end seen = if seen.is_frequent then end else earlier_of end (Some seen.end)
 
 -- the plan of jobs in a span: it has the starts of each job that is shown, and the others are named with how many they have
 pub record IsPlanOf (z : Zone) (span : Span) (most : Option ℕ) (jobs : List Schedule) (starts : List JobStart) (kept : Span) (frequent : List Frequent) : Type 0 where

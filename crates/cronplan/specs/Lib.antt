@@ -5,6 +5,7 @@ pub mod JobDates
 pub mod Jobs
 pub mod Listed
 pub mod Moments
+pub mod OtherClock
 pub mod Spans
 pub mod Starts
 pub mod Together

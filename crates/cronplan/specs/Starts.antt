@@ -20,9 +20,9 @@ abbrev pub second_at : List JobStart → ℕ → Option ℤ
 second_at starts k = option_map (λ s. s.second) (slice_get starts k)
 
 -- the earlier of two seconds, of which the second one may be none
-abbrev pub earlier : ℤ → Option ℤ → ℤ
-earlier end None = end
-earlier end (Some other) = if int_lt other end then other else end
+abbrev pub earlier_of : ℤ → Option ℤ → ℤ
+earlier_of end None = end
+earlier_of end (Some other) = if int_lt other end then other else end
 
 -- so many starts are kept of a plan at most
 abbrev pub most_starts : ℕ
@@ -34,7 +34,7 @@ pub record IsMerged (all : List JobStart) (end : ℤ) (starts : List JobStart) (
   pub ordered : List JobStart
   pub same : IsPermutation all ordered
   pub order : IsSorted start_cmp ordered
-  pub kept_is : kept ≡ earlier end (second_at ordered most_starts)
+  pub kept_is : kept ≡ earlier_of end (second_at ordered most_starts)
   pub starts_are : starts ≡ filter (λ s. int_lt s.second kept) ordered
 
 -- a plan of these starts from a second on up to an end

@@ -3,7 +3,7 @@ ghost use Rattle.std.specs.Prelude.{◌≡◌, ◌≤ℤ◌, ℤ, pos, neg_ℤ, 
 ghost use Rattle.croner_base.specs.TableZone.{table_zone};
 ghost use Rattle.cronplan.specs.Changes.{changes_in};
 ghost use Rattle.cronplan.specs.Counts.{date_of, starts_at};
-ghost use Rattle.cronplan.specs.Days.{AreDays, AreHours, IsDay, cell_of, fuller, fullest_on, first_date, last_date, dates_between};
+ghost use Rattle.cronplan.specs.Days.{AreDays, AreHours, IsDay, cell_of, fuller_moment, fullest_on, first_date, last_date, dates_between};
 ghost use Rattle.cronplan.specs.Private.CountedPlan.{IsCounted, AreRows, IsDateNumber};
 ghost use Rattle.cronplan.specs.declared.start.JobStart.{JobStart};
 
@@ -215,14 +215,14 @@ fn fullest_on(moments: &[Moment], date: i64) -> Option<Moment>
 {
     let mut fullest = None;
     for moment in moments {
-        fullest = fuller(fullest, *moment, date);
+        fullest = fuller_moment(fullest, *moment, date);
     }
     fullest
 }
 
 // A moment in place of another, if it lies on a date and has more starts.
-fn fuller(fullest: Option<Moment>, moment: Moment, date: i64) -> Option<Moment>
-    ensures { result ≡ fuller date fullest moment }
+fn fuller_moment(fullest: Option<Moment>, moment: Moment, date: i64) -> Option<Moment>
+    ensures { result ≡ fuller_moment date fullest moment }
 {
     if date_of(moment.wall) != date {
         return fullest;

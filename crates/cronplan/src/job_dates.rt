@@ -36,7 +36,7 @@ impl DateRange {
 
 /// The jobs of a plan by the dates of a clock.
 ///
-/// A job is daily that starts on every date that lies wholly in the span, where there are two such dates or more. These dates come behind the one
+/// A job is daily that starts on every date that lies wholly in the span, where there are two such dates or more. These dates come after the one
 /// that the clock shows the second before the span, and before the one that it shows at its end.
 #[derive(Debug, Drop)]
 pub struct JobDates {
@@ -127,7 +127,7 @@ fn first_ones(alloc: Global, starts: &[JobStart], per: Per) -> Result<Vec<JobSta
     Ok(found)
 }
 
-// Puts a start behind those that were found, if none of these is like it.
+// Puts a start after those that were found, if none of these is like it.
 fn push_new(
     found: &mut Vec<JobStart>,
     seen: &mut BTreeSet<(i64, usize)>,
@@ -207,7 +207,7 @@ fn daily_jobs(
     Ok(jobs)
 }
 
-// Puts a job behind the others, if it is daily.
+// Puts a job after the others, if it is daily.
 fn push_job(jobs: &mut Vec<usize>, job: usize, is_daily: bool) -> Result<(), AllocError>
     ensures { OnOk result (jobs.new.items ≡ jobs.old.items ++ (if is_daily then job ∷ [] else [])) }
 {
@@ -234,7 +234,7 @@ fn rarer_starts(
     Ok(rarer)
 }
 
-// Puts a start behind the others, if its job isn't daily.
+// Puts a start after the others, if its job isn't daily.
 fn push_start(starts: &mut Vec<JobStart>, start: JobStart, is_daily: bool) -> Result<(), AllocError>
     ensures { OnOk result (starts.new.items ≡ starts.old.items ++ (if not is_daily then start ∷ [] else [])) }
 {

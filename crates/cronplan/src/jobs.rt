@@ -6,7 +6,7 @@ ghost use Rattle.cronplan.specs.Private.Gathered.{AddsJob, Names, Shows};
 
 use crate::counts::{count_of, is_frequent};
 use crate::listing::{Schedule, starts_in};
-use crate::plan::{Plan, earlier};
+use crate::plan::{Plan, earlier_of};
 use crate::span::Span;
 use crate::start::JobStart;
 use croner::errors::CronError;
@@ -116,7 +116,7 @@ fn show_starts(gathering: &mut Gathering, starts: &[JobStart], end: i64) -> Resu
     ensures { OnOk result (Shows starts.now end gathering.old gathering.new) }
 {
     gathering.shown.extend_from_slice(starts)?;
-    gathering.end = earlier(gathering.end, Some(end));
+    gathering.end = earlier_of(gathering.end, Some(end));
     Ok(())
 }
 

@@ -8,6 +8,7 @@ mod job_dates;
 mod jobs;
 mod listing;
 mod moments;
+mod other_clock;
 mod plan;
 mod span;
 mod start;

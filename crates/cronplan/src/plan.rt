@@ -6,7 +6,7 @@ ghost use Rattle.std.specs.BTreeMap.{get};
 ghost use Rattle.std.specs.Ordering.{nat_cmp, int_cmp};
 ghost use Rattle.cronplan.specs.Counts.{starts_at};
 ghost use Rattle.cronplan.specs.Moments.{AreFullest};
-ghost use Rattle.cronplan.specs.Starts.{start_cmp, second_at, earlier, IsMerged, Merges};
+ghost use Rattle.cronplan.specs.Starts.{start_cmp, second_at, earlier_of, IsMerged, Merges};
 ghost use Rattle.cronplan.specs.Windows.{AreWindows, seconds_in};
 
 use crate::counts::{Unit, counts_by};
@@ -40,7 +40,7 @@ impl Plan {
         requires { All (λ s. span.first ≤ℤ s.second) starts.items }
         ensures { Merges starts.items span.first span.end result.starts.items result.span }
     {
-        let (starts, span) = merged(starts, span);
+        let (starts, span) = merge(starts, span);
         Plan { span, starts }
     }
 
@@ -56,7 +56,7 @@ impl Plan {
     /// The windows of the span in which nothing starts for at least `least` seconds: the longest first, and of equal ones the earlier.
     ///
     /// The only error is lack of memory.
-    pub fn quiet(&self, alloc: Global, least: u64) -> Result<Vec<Window>, AllocError>
+    pub fn quiet_windows(&self, alloc: Global, least: u64) -> Result<Vec<Window>, AllocError>
         ensures windows { IfOk result (λ w. AreWindows self.now.starts.items self.now.span least w.items) }
         ensures longest { IfOk result (λ w. IsSortedByKey seconds_in (λ a b. nat_cmp b a) w.items) }
     {
@@ -68,7 +68,7 @@ impl Plan {
     /// The fullest moments of the plan, at most `most`: the one with the most starts first, and of equal ones the earlier.
     ///
     /// A moment is a second at which a job starts. Where there are fewer, all are given. The only error is lack of memory.
-    pub fn fullest(&self, alloc: Global, most: usize) -> Result<Vec<Moment>, AllocError>
+    pub fn fullest_moments(&self, alloc: Global, most: usize) -> Result<Vec<Moment>, AllocError>
         ensures { IfOk result (λ moments. AreFullest self.now.starts.items most moments.items) }
     {
         let mut moments = moments_of(alloc, self.starts.as_slice())?;
@@ -79,13 +79,13 @@ impl Plan {
 }
 
 // The starts of a span in order, and the span. It ends at the second of the first start too many, if there is one.
-fn merged(mut starts: Vec<JobStart>, span: Span) -> (Vec<JobStart>, Span)
+fn merge(mut starts: Vec<JobStart>, span: Span) -> (Vec<JobStart>, Span)
     requires { All (λ s. span.first ≤ℤ s.second) starts.items }
     ensures starts { Merges starts.items span.first span.end result.0.items result.1 }
     ensures few { length result.0.items ≤ 100_000 }
 {
     starts.sort_unstable();
-    let end = earlier(span.end, second_at(starts.as_slice(), MOST_STARTS));
+    let end = earlier_of(span.end, second_at(starts.as_slice(), MOST_STARTS));
     starts.truncate(MOST_STARTS);
     starts.retain(|start| start.second < end);
     let span = Span {
@@ -96,8 +96,8 @@ fn merged(mut starts: Vec<JobStart>, span: Span) -> (Vec<JobStart>, Span)
 }
 
 /// The earlier of two seconds, or the first where there is no other.
-pub(crate) fn earlier(end: i64, other: Option<i64>) -> i64
-    ensures { result ≡ earlier end other }
+pub(crate) fn earlier_of(end: i64, other: Option<i64>) -> i64
+    ensures { result ≡ earlier_of end other }
 {
     match other {
         Some(other) if other < end => other,

@@ -18,7 +18,7 @@ pub struct Span {
 }
 
 impl Span {
-    /// The span from a second on up to another. `None` where that is earlier, or where it begins before `EARLIEST_FIRST` or ends behind `LATEST_END`,
+    /// The span from a second on up to another. `None` where that is earlier, or where it begins before `EARLIEST_FIRST` or ends after `LATEST_END`,
     /// nearly the UTC years -9999 to 9999.
     pub fn new(first: i64, end: i64) -> Option<Span>
         ensures { MatchOption result (is_span first end ≡ false) (λ s. (s.first ≡ first) × (s.end ≡ end)) }

@@ -2,7 +2,7 @@
 ghost use Rattle.std.specs.Prelude.{◌≡◌, ◌<◌, ◌+◌, ◌≤◌, ◌^◌, ◌++◌, true, false, not, nat_lt, IsTrue, IsFalse, MatchOption, IfOk, OnOk, length, map, take, slice_index_or};
 ghost use Rattle.std.specs.List.{All, Contains};
 ghost use Rattle.std.specs.List.Sorted.{IsSorted, IsSortedBy};
-ghost use Rattle.cronplan.specs.Private.Meetings.{seen_of, seen_if_several, is_lower, alike, jobs_in, AreMeetings, AreMeetingsUntil, AreByJobs, IsNewGroup, AreSets, AreSetsUntil};
+ghost use Rattle.cronplan.specs.Private.Meetings.{seen_of, seen_if_several, is_lower, meetings_with_jobs, jobs_in, AreMeetings, AreMeetingsUntil, AreByJobs, IsNewGroup, AreSets, AreSetsUntil};
 ghost use Rattle.cronplan.specs.Private.MomentsUntil.{moment_of};
 ghost use Rattle.cronplan.specs.Starts.{start_cmp};
 ghost use Rattle.cronplan.specs.Together.{jobs_of, AreTogether};
@@ -37,7 +37,7 @@ impl Plan {
     /// these. Each set comes once, the one with the most moments first, and of equal ones the one whose first moment is earlier.
     ///
     /// A job that the plan names as too frequent is in none of them. The only error is lack of memory.
-    pub fn together(&self, alloc: Global) -> Result<Vec<Together>, AllocError>
+    pub fn sets_together(&self, alloc: Global) -> Result<Vec<Together>, AllocError>
         ensures { IfOk result (λ sets. AreTogether self.now.starts.items sets.items) }
     {
         let meetings = meetings_by_jobs(alloc, self.starts.as_slice())?;
@@ -200,7 +200,7 @@ fn meetings_from(meetings: &[Meeting], place: usize) -> Option<&[Meeting]>
     ensures { (d : Meeting) → MatchOption result (Contains (jobs_in (take place meetings.now)) (slice_index_or meetings.now place d).jobs.items) (λ group. IsNewGroup meetings.now place (slice_index_or meetings.now place d) group.now) }
 {
     if is_new(meetings, place) {
-        Some(alike(meetings.split_at(place).1, &meetings[place]))
+        Some(meetings_with_jobs(meetings.split_at(place).1, &meetings[place]))
     } else {
         None
     }
@@ -224,10 +224,10 @@ fn is_lower(meeting: &Meeting, other: &Meeting) -> bool
 }
 
 // Those of some meetings that have the jobs of another. They are sorted by their jobs, and none has lower ones.
-fn alike<'m>(later: &'m [Meeting], meeting: &Meeting) -> &'m [Meeting]
+fn meetings_with_jobs<'m>(later: &'m [Meeting], meeting: &Meeting) -> &'m [Meeting]
     requires order { IsSortedBy is_lower later.now }
     requires late { All (λ m. is_lower m meeting.now ≡ false) later.now }
-    ensures { result.now ≡ alike meeting.now later.now }
+    ensures { result.now ≡ meetings_with_jobs meeting.now later.now }
 {
     let count = later.partition_point(
         |other: &Meeting| -> bool

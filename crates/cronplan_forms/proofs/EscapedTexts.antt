@@ -11,7 +11,7 @@ use Rattle.std.proofs.lemmas.Str.{encodes_same}
 use Rattle.std.proofs.lemmas.List.Folds.{list_all-append}
 use Rattle.cronplan_forms.specs.declared.escapes.Form.{Form}
 use Rattle.cronplan_forms.specs.declared.escapes.Form.TheVariants as forms
-use Rattle.cronplan_forms.specs.Escapes.{backslash, is_control, number_text, plain_text, or_plain, escaped_character, escaped, ends_no_property, ends_no_element, ends_nothing}
+use Rattle.cronplan_forms.specs.Escapes.{backslash, is_control, number_text, plain_text, or_plain, escaped_character, escaped_text, ends_no_property, ends_no_element, ends_nothing}
 
 -- none of these bytes ends anything
 record AreClosed (form : Form) (bs : List ℕ) : Type 0 where
@@ -122,11 +122,11 @@ all_of form [] = none form
 all_of form (c ∷ cs) = joined form (escaped_character form c) (flat_map (escaped_character form) cs) (character_closed form c) (all_of form cs)
 
 -- no byte of a text ends what it stands in
-pub closed : (form : Form) (text : List ℕ) → list_all (ends_nothing form) (escaped form text) ≡ true
-unfolding escaped
+pub closed : (form : Form) (text : List ℕ) → list_all (ends_nothing form) (escaped_text form text) ≡ true
+unfolding escaped_text
 closed form text = (all_of form (chars text)).all
 
-pub all_closed : (form : Form) (text out : List ℕ) → out ≡ escaped form text → list_all (ends_nothing form) out ≡ true
+pub all_closed : (form : Form) (text out : List ℕ) → out ≡ escaped_text form text → list_all (ends_nothing form) out ≡ true
 all_closed form text out is = rw is (closed form text)
 
 -- ---- the loop

@@ -7,7 +7,7 @@ use Rattle.cronplan.specs.declared.windows.Bound.{Bound}
 use Rattle.cronplan.specs.declared.windows.Bound.TheVariants as bounds
 use Rattle.cronplan_forms.specs.declared.answers.quiet.ShownWindow.{ShownWindow}
 use Rattle.cronplan_forms.specs.declared.clock.ClockTime.{ClockTime}
-use Rattle.cronplan_forms.specs.Answers.{starts_text, hour_line, times_text, joined, joined_behind, added_label, cut_line, window_text}
+use Rattle.cronplan_forms.specs.Answers.{starts_text, hour_line, times_text, joined, joined_after, added_label, cut_line, window_text}
 use Rattle.cronplan_forms.specs.Apart.{set_apart}
 use Rattle.cronplan_forms.specs.Clocks.{ahead_text, clock_text, lasting_text}
 use Rattle.cronplan_forms.specs.DateNames.{month_text}
@@ -35,7 +35,7 @@ march : month_text 3 ≡ codes "Mar"
 march = refl
 
 two_jobs : joined (codes "a:1" ∷ codes "b:2" ∷ []) (0 ∷ 1 ∷ []) ≡ codes "a:1 + b:2"
-unfolding joined_behind added_label
+unfolding joined_after added_label
 two_jobs = refl
 
 at_one_moment : times_text 1 ≡ codes "  once"

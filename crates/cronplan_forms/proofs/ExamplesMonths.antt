@@ -60,7 +60,7 @@ five_titles = (refl, refl, refl, refl)
 
 -- ---- months
 
--- the first week of April, with the edge of a plan in it: of Thursday the first and the three days behind it the last two aren't in the plan
+-- the first week of April, with the edge of a plan in it: of Thursday the first and the three days after it the last two aren't in the plan
 abbrev april : Month
 april = record { name = text (codes "April 2027"); first_weekday = 3; days = record { ref_ptr = (0, 0); now = day (titled_with (pos 20_909) (codes "report") ∷ []) true ∷ day [] true ∷ day [] false ∷ day [] false ∷ [] } }
 
@@ -72,7 +72,7 @@ a_week = (refl, refl, refl)
 marked : (has_marks april ≡ true) × (week_count april ≡ 1)
 marked = (refl, refl)
 
--- March of 2027 has the number 24,326: 31 days, of which the first, 20,878 days behind 1970-01-01, is a Monday; April comes next, and December
+-- March of 2027 has the number 24,326: 31 days, of which the first, 20,878 days after 1970-01-01, is a Monday; April comes next, and December
 -- of year 0 is the number 11
 numbers : (year_of (pos 24_326) ≡ pos 2_027) × (place_in_year (pos 24_326) ≡ 3) × (days_of (pos 24_326) ≡ 31) × (days_of (pos 24_327) ≡ 30) × (place_in_year (pos 11) ≡ 12)
 numbers = (refl, refl, refl, refl, refl)

@@ -34,21 +34,21 @@ fewer (b ∷ bs) n m h k =
     both (nat_lt n 77) _ less (same_line (b == 10) _ _ _ (fewer bs (suc n) (suc m) (omega (arith, h))) parts.1)
 
 -- bytes that find room, before short lines
-behind : (bs rest : List ℕ) (n m : ℕ) → n + length bs ≡ m → m ≤ 75 → are_short m rest ≡ true → are_short n (bs ++ rest) ≡ true
-behind [] rest n m e h k = fewer rest n m (omega (arith, e)) k
-behind (b ∷ bs) rest n m e h k =
+after_bytes : (bs rest : List ℕ) (n m : ℕ) → n + length bs ≡ m → m ≤ 75 → are_short m rest ≡ true → are_short n (bs ++ rest) ≡ true
+after_bytes [] rest n m e h k = fewer rest n m (omega (arith, e)) k
+after_bytes (b ∷ bs) rest n m e h k =
     let less : nat_lt n 77 ≡ true = grind (arith, nat_tests, e, h) in
     let same : suc n + length bs ≡ m = omega (arith, e) in
     let anew : are_short (length bs) rest ≡ true = fewer rest (length bs) m (omega (arith, e)) k in
     both (nat_lt n 77) _ less
-    (of_two (b == 10) _ _ (behind bs rest 0 (length bs) (omega arith) (omega (arith, e, h)) anew) (behind bs rest (suc n) m same h k))
+    (of_two (b == 10) _ _ (after_bytes bs rest 0 (length bs) (omega arith) (omega (arith, e, h)) anew) (after_bytes bs rest (suc n) m same h k))
 
 size_of : (c n : ℕ) → n + length (encode_utf8 c) ≡ n + len_utf8 c
 size_of c n = ap (λ k. n + k) (length-encode c)
 
 -- a fold after so many bytes, and a line that begins with its space
-behind_fold : (rest : List ℕ) (n : ℕ) → n ≤ 75 → are_short 1 rest ≡ true → are_short n (fold_text ++ rest) ≡ true
-behind_fold rest n h k =
+after_fold : (rest : List ℕ) (n : ℕ) → n ≤ 75 → are_short 1 rest ≡ true → are_short n (fold_text ++ rest) ≡ true
+after_fold rest n h k =
     let first : nat_lt n 77 ≡ true = grind (arith, nat_tests) in
     let second : nat_lt (suc n) 77 ≡ true = grind (arith, nat_tests) in
     both (nat_lt n 77) _ first (both (nat_lt (suc n) 77) _ second k)
@@ -57,10 +57,10 @@ one_short : (t : Bool) (c n : ℕ) (rest : List ℕ) → n ≤ 75 → is_full n 
     → are_short n (cond t (fold_text ++ encode_utf8 c) (encode_utf8 c) ++ rest) ≡ true
 one_short true c n rest h full k =
     let few : 1 + len_utf8 c ≤ 75 = omega (arith, len_utf8_bounds c) in
-    behind_fold (encode_utf8 c ++ rest) n h (behind (encode_utf8 c) rest 1 (1 + len_utf8 c) (size_of c 1) few k)
+    after_fold (encode_utf8 c ++ rest) n h (after_bytes (encode_utf8 c) rest 1 (1 + len_utf8 c) (size_of c 1) few k)
 one_short false c n rest h full k =
     let few : n + len_utf8 c ≤ 75 = grind (arith, nat_tests, full) in
-    behind (encode_utf8 c) rest n (n + len_utf8 c) (size_of c n) few k
+    after_bytes (encode_utf8 c) rest n (n + len_utf8 c) (size_of c n) few k
 
 room : (t : Bool) (c n : ℕ) → is_full n c ≡ t → cond t (1 + len_utf8 c) (n + len_utf8 c) ≤ 75
 room true c n full = omega (arith, len_utf8_bounds c)

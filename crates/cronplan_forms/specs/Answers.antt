@@ -187,12 +187,12 @@ label_at labels k = title_or_none (slice_get labels k)
 unfoldable pub added_label : List (List ℕ) → ℕ → List ℕ
 added_label labels k = codes " + " ++ label_at labels k
 
-unfoldable pub joined_behind : List (List ℕ) → List ℕ → List ℕ
-joined_behind labels places = flat_map (added_label labels) places
+unfoldable pub joined_after : List (List ℕ) → List ℕ → List ℕ
+joined_after labels places = flat_map (added_label labels) places
 
 abbrev pub joined : List (List ℕ) → List ℕ → List ℕ
 joined labels [] = []
-joined labels (k ∷ ks) = label_at labels k ++ joined_behind labels ks
+joined labels (k ∷ ks) = label_at labels k ++ joined_after labels ks
 
 -- how many moments there are
 abbrev pub times_text : ℕ → List ℕ

@@ -15,7 +15,7 @@ use Rattle.cronplan_forms.specs.declared.calendar.event.Event.{Event}
 use Rattle.cronplan_forms.specs.declared.escapes.Form.TheVariants as forms
 use Rattle.cronplan_forms.specs.declared.job.Job.{Job}
 use Rattle.cronplan_forms.specs.ContentLines.{content_line}
-use Rattle.cronplan_forms.specs.Escapes.{escaped}
+use Rattle.cronplan_forms.specs.Escapes.{escaped_text}
 
 -- ---- lines
 
@@ -25,7 +25,7 @@ property_line name value = content_line (name ++ (codes ":" ++ value))
 
 -- a property of type TEXT
 unfoldable pub text_line : List ℕ → List ℕ → List ℕ
-text_line name text = property_line name (escaped forms.Text text)
+text_line name text = property_line name (escaped_text forms.Text text)
 
 -- a date, as `20241027`, and a time, as `023000`
 abbrev pub date_part : ℤ → ℕ → ℕ → List ℕ

@@ -41,14 +41,14 @@ abbrev pub is_fold : List ℕ → Bool
 is_fold bs = slice_index bs 0 == 13 && (slice_index bs 1 == 10 && slice_index bs 2 == 32)
 
 -- bytes without their folds, where so many of them belong to a fold that began before
-abbrev pub unfolded_behind : ℕ → List ℕ → List ℕ
-unfolded_behind n [] = []
-unfolded_behind (suc n) (b ∷ bs) = unfolded_behind n bs
-unfolded_behind zero (b ∷ bs) = if is_fold (b ∷ bs) then unfolded_behind 2 bs else b ∷ unfolded_behind zero bs
+abbrev pub unfolded_after : ℕ → List ℕ → List ℕ
+unfolded_after n [] = []
+unfolded_after (suc n) (b ∷ bs) = unfolded_after n bs
+unfolded_after zero (b ∷ bs) = if is_fold (b ∷ bs) then unfolded_after 2 bs else b ∷ unfolded_after zero bs
 
 -- bytes without their folds
 abbrev pub unfolded : List ℕ → List ℕ
-unfolded bs = unfolded_behind 0 bs
+unfolded bs = unfolded_after 0 bs
 
 -- each line has at most 77 bytes with its line feed, where the first has so many before
 abbrev pub are_short : ℕ → List ℕ → Bool

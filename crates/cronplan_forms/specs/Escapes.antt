@@ -56,8 +56,8 @@ abbrev pub escaped_character : Form → ℕ → List ℕ
 escaped_character form c = or_plain form c (escape_of form c)
 
 -- the bytes of a text as they stand there
-unfoldable pub escaped : Form → List ℕ → List ℕ
-escaped form text = flat_map (escaped_character form) (chars text)
+unfoldable pub escaped_text : Form → List ℕ → List ℕ
+escaped_text form text = flat_map (escaped_character form) (chars text)
 
 -- the byte ends no line, and so no property of a calendar: it is no control sign
 abbrev pub ends_no_property : ℕ → Bool

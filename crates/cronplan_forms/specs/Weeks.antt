@@ -116,8 +116,8 @@ picture_text s days = head_text ++ (rows_text s days ++ legend_text s)
 -- ---- changes of the clock
 
 -- the wall second that would follow what the clock showed last
-abbrev pub behind : ClockChange → ℤ
-behind c = saturate_signed w64 (c.before +ℤ pos 1)
+abbrev pub expected_wall : ClockChange → ℤ
+expected_wall c = saturate_signed w64 (c.before +ℤ pos 1)
 
 -- the clock is put forward: it shows a later time than the second before
 abbrev pub is_put_forward : ClockChange → Bool
@@ -130,7 +130,7 @@ pub record IsNamedWall (wall : ℤ) (w : NamedWall) : Type 0 where
 
 -- a change is shown with what lies around it, and with how many of the starts come at its second
 pub record IsShownChange (starts : List JobStart) (s : ShownChange) : Type 0 where
-  pub behind_is : IsNamedWall (behind s.change) s.behind
+  pub expected_is : IsNamedWall (expected_wall s.change) s.expected
   pub shown_is : IsNamedWall s.change.shown s.shown
   pub starts_are : s.starts ≡ starts_at units.Second s.change.second starts
 
@@ -140,13 +140,13 @@ wall_text w = date_name_text w.date ++ (32 ∷ clock_text (second_of_day w.wall)
 
 -- what it skips, and what it shows twice
 unfoldable pub forward_text : NamedWall → NamedWall → List ℕ
-forward_text behind shown = codes "the clock skips " ++ (wall_text behind ++ (codes " to " ++ wall_text shown))
+forward_text expected shown = codes "the clock skips " ++ (wall_text expected ++ (codes " to " ++ wall_text shown))
 
 unfoldable pub back_text : NamedWall → NamedWall → List ℕ
-back_text behind shown = codes "the clock shows " ++ (wall_text shown ++ (codes " to " ++ (wall_text behind ++ codes " twice")))
+back_text expected shown = codes "the clock shows " ++ (wall_text shown ++ (codes " to " ++ (wall_text expected ++ codes " twice")))
 
 abbrev pub kind_text : ShownChange → List ℕ
-kind_text s = if is_put_forward s.change then forward_text s.behind s.shown else back_text s.behind s.shown
+kind_text s = if is_put_forward s.change then forward_text s.expected s.shown else back_text s.expected s.shown
 
 -- a change as a line
 unfoldable pub change_line : ShownChange → List ℕ

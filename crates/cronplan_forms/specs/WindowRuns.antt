@@ -38,8 +38,8 @@ is_day_later t u = (shown_second t == shown_second u) && int_eq t.ahead.seconds 
 -- the longest window first, of equal ones the one that begins earlier in the day, then the earlier
 abbrev pub told_cmp : ShownWindow → ShownWindow → Ordering
 told_cmp s t =
-    ordering_then (nat_cmp (seconds_in t.window) (seconds_in s.window))
-    (ordering_then (nat_cmp (shown_second s.from) (shown_second t.from)) (int_cmp s.window.from.second t.window.from.second))
+    ordering_then (ordering_then (nat_cmp (seconds_in t.window) (seconds_in s.window)) (nat_cmp (shown_second s.from) (shown_second t.from)))
+    (int_cmp s.window.from.second t.window.from.second)
 
 -- the windows of a plan that are so long at least, in that order
 pub record AreTold (z : Zone) (p : Plan) (least : ℕ) (told : List ShownWindow) : Type 0 where

@@ -8,7 +8,7 @@ mod of_plan;
 mod uid;
 
 use crate::content_line::push_content_line;
-use crate::escapes::{Form, escaped};
+use crate::escapes::{Form, escape};
 use croner_base::time::CivilDateTime;
 pub use event::Event;
 use event::push_event;
@@ -147,7 +147,7 @@ fn push_cut(text: &mut String, count: usize) -> Result<(), AllocError>
 fn push_text(alloc: Global, out: &mut String, name: &str, text: &str) -> Result<(), AllocError>
     ensures { OnOk result (string_bytes out.new ≡ string_bytes out.old ++ text_line name.now text.now) }
 {
-    let value = escaped(alloc, text, Form::Text)?;
+    let value = escape(alloc, text, Form::Text)?;
     push_property(alloc, out, name, value.as_str())
 }
 

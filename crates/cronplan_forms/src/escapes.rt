@@ -1,7 +1,7 @@
 //! The characters of a text as they are written in a calendar or a page.
 ghost use Rattle.std.specs.Prelude.{◌≡◌, ◌++◌, option_map, OnOk, IfOk, IsTrue, string_bytes};
 ghost use Rattle.std.specs.List.{list_all};
-ghost use Rattle.cronplan_forms.specs.Escapes.{text_escape, html_escape, escape_of, backslash, is_control, number_text, plain_text, escaped_character, escaped, ends_nothing};
+ghost use Rattle.cronplan_forms.specs.Escapes.{text_escape, html_escape, escape_of, backslash, is_control, number_text, plain_text, escaped_character, escaped_text, ends_nothing};
 
 use std::alloc::{AllocError, Global};
 
@@ -18,8 +18,8 @@ pub enum Form {
 ///
 /// No character of it ends a property of a calendar, or an element or attribute of a page: one that would is escaped. Other ASCII control
 /// characters are written by number, as `\u{1b}`. The only error is lack of memory.
-pub fn escaped(alloc: Global, text: &str, form: Form) -> Result<String, AllocError>
-    ensures value { IfOk result (λ t. string_bytes t ≡ escaped form text.now) }
+pub fn escape(alloc: Global, text: &str, form: Form) -> Result<String, AllocError>
+    ensures value { IfOk result (λ t. string_bytes t ≡ escaped_text form text.now) }
     ensures closed { IfOk result (λ t. IsTrue (list_all (ends_nothing form) (string_bytes t))) }
 {
     let mut escaped = String::new(alloc);
@@ -32,8 +32,8 @@ pub fn escaped(alloc: Global, text: &str, form: Form) -> Result<String, AllocErr
 /// The only error is lack of memory; the end of the other text is then unspecified.
 #[tactic(auto, using(crate::proofs::EscapedTexts::all_closed))]
 pub fn push_escaped(out: &mut String, text: &str, form: Form) -> Result<(), AllocError>
-    ensures value { OnOk result (string_bytes out.new ≡ string_bytes out.old ++ escaped form text.now) }
-    ensures closed { IsTrue (list_all (ends_nothing form) (escaped form text.now)) }
+    ensures value { OnOk result (string_bytes out.new ≡ string_bytes out.old ++ escaped_text form text.now) }
+    ensures closed { IsTrue (list_all (ends_nothing form) (escaped_text form text.now)) }
 {
     for c in text.chars() {
         push_character(out, c, form)?;

@@ -24,7 +24,7 @@ pub use calendar::{Calendar, Event, MOST_EVENTS, Naming, calendar_text, plan_cal
 pub use clock::{ClockTime, weekday_text};
 pub use content_line::push_content_line;
 pub use date_name::DateName;
-pub use escapes::{Form, escaped, push_escaped};
+pub use escapes::{Form, escape, push_escaped};
 pub use job::Job;
 pub use lasting::Lasting;
 pub use month::{Daily, Month, MonthDay, Titled, months_text};

@@ -25,7 +25,7 @@ pub struct Titled<'m> {
 pub struct MonthDay<'m> {
     /// The titles of what starts on it, but for what starts on every day. The first three are shown, and how many are left.
     pub titles: &'m [Titled<'m>],
-    /// Whether it is one of the plan. Another has a mark behind its number.
+    /// Whether it is one of the plan. Another has a mark after its number.
     pub is_in_plan: bool,
 }
 
@@ -279,7 +279,7 @@ fn push_day(
     push_fill(text, 0)
 }
 
-// Puts what a day has on a line behind a text.
+// Puts what a day has on a line after a text.
 #[tactic(auto, unfolding(crate::specs::Months::day_cell))]
 fn push_day_line(
     text: &mut String,
@@ -298,7 +298,7 @@ fn push_day_line(
     push_title_at(text, day.titles, line - 1)
 }
 
-// Puts a date behind a text, with a mark where it isn't one of the plan.
+// Puts a date after a text, with a mark where it isn't one of the plan.
 fn push_date_of(text: &mut String, date: usize, is_in_plan: bool) -> Result<(), AllocError>
     ensures { OnOk result (string_bytes text.new ≡ string_bytes text.old ++ date_cell_of is_in_plan date) }
 {
@@ -316,7 +316,7 @@ fn push_marked(text: &mut String, date: usize) -> Result<(), AllocError>
     push_fill(text, used)
 }
 
-// Puts a date and its mark behind a text, and answers how many characters these are.
+// Puts a date and its mark after a text, and answers how many characters these are.
 #[tactic(auto, unfolding(crate::specs::Months::marked_date))]
 fn push_mark(text: &mut String, date: usize) -> Result<usize, AllocError>
     ensures value { OnOk result (string_bytes text.new ≡ string_bytes text.old ++ marked_date date) }
@@ -437,7 +437,7 @@ fn ends_a_line(c: char) -> bool
     '\u{2028}' <= c && c <= '\u{2029}'
 }
 
-/// Puts what starts on every day behind a text, if something does.
+/// Puts what starts on every day after a text, if something does.
 #[tactic(auto, unfolding(crate::specs::Months::daily_text))]
 fn push_daily(text: &mut String, daily: &[Daily<'_>]) -> Result<(), AllocError>
     ensures { OnOk result (string_bytes text.new ≡ string_bytes text.old ++ daily_text daily.now) }

@@ -42,8 +42,8 @@ fn plan_object(alloc: Global, view: View<'_>) -> Result<Value, AllocError>
         moments,
         quiet,
     };
-    let first = ClockTime::at(table, plan.span.first);
-    let end = ClockTime::at(table, plan.span.end);
+    let first = ClockTime::shown_at(table, plan.span.first);
+    let end = ClockTime::shown_at(table, plan.span.end);
     let object = object_of(alloc, view, &first, &end, lists)?;
     Ok(object)
 }

@@ -36,7 +36,7 @@ pub(crate) fn moments_value(
 fn moments_of(alloc: Global, plan: &Plan) -> Result<Vec<Moment>, AllocError>
     ensures { IfOk result (λ moments. AreMoments plan.now.starts.items moments.items) }
 {
-    let mut moments = plan.fullest(alloc, usize::MAX)?;
+    let mut moments = plan.fullest_moments(alloc, usize::MAX)?;
     moments.sort_unstable_by_key(|moment| moment.second);
     Ok(moments)
 }
@@ -63,7 +63,7 @@ fn shown_moment(table: &ClockTable, moment: Moment) -> ShownMoment
 {
     ShownMoment {
         moment,
-        at: ClockTime::at(table, moment.second),
+        at: ClockTime::shown_at(table, moment.second),
     }
 }
 

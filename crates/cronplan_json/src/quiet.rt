@@ -26,7 +26,7 @@ pub(crate) fn quiet_value(
 ) -> Result<Value, AllocError>
     ensures { IfOk result (λ v. (shown : List ShownWindow) × IsQuiet (table_zone table.now) plan.now least_quiet shown × (view v ≡ array (items_of (map window_object shown)))) }
 {
-    let windows = plan.quiet(alloc, QUIET_SECONDS)?;
+    let windows = plan.quiet_windows(alloc, QUIET_SECONDS)?;
     let shown = shown_windows(alloc, table, windows.as_slice())?;
     let items = window_items(alloc, shown.as_slice())?;
     Ok(Value::Array(items))
@@ -54,8 +54,8 @@ fn shown_window(table: &ClockTable, window: Window) -> ShownWindow
 {
     ShownWindow {
         window,
-        from: ClockTime::at(table, window.from.second),
-        until: ClockTime::at(table, window.until.second),
+        from: ClockTime::shown_at(table, window.from.second),
+        until: ClockTime::shown_at(table, window.until.second),
     }
 }
 

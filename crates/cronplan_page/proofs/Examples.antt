@@ -10,7 +10,7 @@ use Rattle.cronplan.specs.declared.start.JobStart.{JobStart}
 use Rattle.cronplan.specs.declared.windows.Bound.{Bound}
 use Rattle.cronplan.specs.declared.windows.Bound.TheVariants as bounds
 use Rattle.cronplan.specs.declared.windows.Window.{Window}
-use Rattle.cronplan_forms.specs.Escapes.{escaped}
+use Rattle.cronplan_forms.specs.Escapes.{escaped_text}
 use Rattle.cronplan_page.specs.declared.pieces.Piece.TheVariants as pieces
 use Rattle.cronplan_page.specs.Fullest.{name_at}
 use Rattle.cronplan_page.specs.Markup.{element, list_of}
@@ -23,7 +23,7 @@ use Rattle.cronplan_page.specs.Words.{many_text, weekday_on}
 
 -- a title that would begin an element of its own
 a_forged_element : element pieces.Name (codes "</h1><script>") pieces.NameEnd ≡ codes "<h1>&lt;/h1&gt;&lt;script&gt;</h1>\n"
-unfolding element piece_text escaped chars encode_utf8
+unfolding element piece_text escaped_text chars encode_utf8
 a_forged_element = refl
 
 -- one start, and others

@@ -8,8 +8,8 @@ use Rattle.cronplan_page.specs.Pieces.{piece_text}
 use Rattle.cronplan_page.specs.Words.{duration_text, time_text}
 
 -- by how many seconds the clock is put forward or back
-abbrev pub moved : TimedChange → ℕ
-moved c = unsigned_abs (c.before.ahead.seconds -ℤ c.shown.ahead.seconds)
+abbrev pub seconds_moved : TimedChange → ℕ
+seconds_moved c = unsigned_abs (c.before.ahead.seconds -ℤ c.shown.ahead.seconds)
 
 -- what becomes of so much of the clock: it is skipped where the clock is put forward
 abbrev pub fate_text : TimedChange → List ℕ
@@ -17,7 +17,7 @@ fate_text c = if int_lt c.before.ahead.seconds c.shown.ahead.seconds then codes 
 
 -- a change in words: what the clock shows the second before, and what it skips or repeats
 unfoldable pub change_words : TimedChange → List ℕ
-change_words c = codes "follows " ++ (time_text c.before ++ (codes ": " ++ (duration_text (moved c) ++ fate_text c)))
+change_words c = codes "follows " ++ (time_text c.before ++ (codes ": " ++ (duration_text (seconds_moved c) ++ fate_text c)))
 
 -- a change
 unfoldable pub change_line : TimedChange → List ℕ

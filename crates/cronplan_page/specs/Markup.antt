@@ -3,7 +3,7 @@ use Rattle.std.specs.Prelude.{ℕ, Bool, List, [], ◌∷◌, ◌++◌, if◌the
 use Rattle.std.specs.Fmt.{decimal}
 use Rattle.std.specs.List.{flat_map}
 use Rattle.cronplan_forms.specs.declared.escapes.Form.TheVariants as forms
-use Rattle.cronplan_forms.specs.Escapes.{escaped}
+use Rattle.cronplan_forms.specs.Escapes.{escaped_text}
 use Rattle.cronplan_page.specs.declared.markup.Line.{Line}
 use Rattle.cronplan_page.specs.declared.pieces.Piece.{Piece}
 use Rattle.cronplan_page.specs.declared.pieces.Piece.TheVariants as pieces
@@ -11,7 +11,7 @@ use Rattle.cronplan_page.specs.Pieces.{piece_text}
 
 -- a text as it is written in an element: no byte of it ends the element
 abbrev pub html : List ℕ → List ℕ
-html text = escaped forms.Html text
+html text = escaped_text forms.Html text
 
 -- a text between two pieces of markup
 unfoldable pub element : Piece → List ℕ → Piece → List ℕ

@@ -1,6 +1,6 @@
 //! The changes of a clock in words.
 ghost use Rattle.std.specs.Prelude.{◌≡◌, ◌++◌, OnOk, string_bytes};
-ghost use Rattle.cronplan_page.specs.ClockChanges.{moved, fate_text, change_words, change_line, change_lines, changes_text};
+ghost use Rattle.cronplan_page.specs.ClockChanges.{seconds_moved, fate_text, change_words, change_line, change_lines, changes_text};
 
 use crate::markup::{push_list_begin, push_list_end};
 use crate::pieces::{Piece, push_piece};
@@ -47,13 +47,13 @@ pub(crate) fn push_change_words(out: &mut String, change: TimedChange) -> Result
     out.push_str("follows ")?;
     push_time(out, change.before)?;
     out.push_str(": ")?;
-    push_duration(out, moved(change))?;
+    push_duration(out, seconds_moved(change))?;
     out.push_str(fate_text(change))
 }
 
 // How many seconds the clock is moved forward or back.
-fn moved(change: TimedChange) -> u64
-    ensures { result ≡ moved change }
+fn seconds_moved(change: TimedChange) -> u64
+    ensures { result ≡ seconds_moved change }
 {
     change
         .before

@@ -87,12 +87,12 @@ pub(crate) enum Piece {
 pub(crate) fn push_piece(out: &mut String, piece: Piece) -> Result<(), AllocError>
     ensures { OnOk result (string_bytes out.new ≡ string_bytes out.old ++ piece_text piece) }
 {
-    out.push_str(text_of(piece))
+    out.push_str(text_of_piece(piece))
 }
 
 // The table of the pieces.
 #[tactic(auto, unfolding(crate::specs::Pieces::piece_text))]
-fn text_of(piece: Piece) -> &'static str
+fn text_of_piece(piece: Piece) -> &'static str
     ensures { result.now ≡ piece_text piece }
 {
     match piece {

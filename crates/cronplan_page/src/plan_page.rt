@@ -47,8 +47,8 @@ pub fn page_of(alloc: Global, view: View<'_>, about: About<'_>) -> Result<String
     let page = Page {
         view,
         about,
-        first: ClockTime::at(view.table, view.plan.span.first),
-        end: ClockTime::at(view.table, view.plan.span.end),
+        first: ClockTime::shown_at(view.table, view.plan.span.first),
+        end: ClockTime::shown_at(view.table, view.plan.span.end),
         quiet: told.quiet.as_slice(),
         fullest: told.fullest.as_slice(),
         starts: told.starts.as_slice(),
@@ -69,7 +69,7 @@ fn told_of(alloc: Global, view: View<'_>) -> Result<Told, AllocError>
     ensures changes { IfOk result (λ told. AreTimedChanges (table_zone view.entry.table.now) told.days.changes.items told.changes.items) }
 {
     let (plan, table) = (view.plan, view.table);
-    let quiet = longest(alloc, plan, table)?;
+    let quiet = longest_windows(alloc, plan, table)?;
     let fullest = fullest_of(alloc, plan, table)?;
     let starts = timed_starts(alloc, table, plan.starts.as_slice())?;
     let days = plan.days(alloc, table)?;
@@ -84,10 +84,14 @@ fn told_of(alloc: Global, view: View<'_>) -> Result<Told, AllocError>
 }
 
 // The longest windows of a plan, as many as are shown.
-fn longest(alloc: Global, plan: &Plan, table: &ClockTable) -> Result<Vec<TimedWindow>, AllocError>
+fn longest_windows(
+    alloc: Global,
+    plan: &Plan,
+    table: &ClockTable,
+) -> Result<Vec<TimedWindow>, AllocError>
     ensures { IfOk result (λ quiet. AreLongest (table_zone table.now) plan.now quiet.items) }
 {
-    let windows = plan.quiet(alloc, 1)?;
+    let windows = plan.quiet_windows(alloc, 1)?;
     let quiet = timed_windows(alloc, table, first_windows(windows.as_slice()))?;
     Ok(quiet)
 }
@@ -110,7 +114,7 @@ fn fullest_of(
 ) -> Result<Vec<TimedMoment>, AllocError>
     ensures { IfOk result (λ fullest. AreFullestOf (table_zone table.now) plan.now fullest.items) }
 {
-    let moments = plan.fullest(alloc, MOST_FULLEST)?;
+    let moments = plan.fullest_moments(alloc, MOST_FULLEST)?;
     let fullest = timed_moments(alloc, table, moments.as_slice())?;
     Ok(fullest)
 }

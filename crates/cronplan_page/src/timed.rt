@@ -81,7 +81,7 @@ fn push_start(
     ensures { (starts : List JobStart) → AreTimedStarts (table_zone table.now) starts timed.old.items
         → OnOk result (AreTimedStarts (table_zone table.now) (starts ++ start ∷ []) timed.new.items) }
 {
-    let time = ClockTime::at(table, start.second);
+    let time = ClockTime::shown_at(table, start.second);
     timed.push(TimedStart { start, time })?;
     Ok(())
 }
@@ -109,7 +109,7 @@ fn push_moment(
     ensures { (moments : List Moment) → AreTimedMoments (table_zone table.now) moments timed.old.items
         → OnOk result (AreTimedMoments (table_zone table.now) (moments ++ moment ∷ []) timed.new.items) }
 {
-    let time = ClockTime::at(table, moment.second);
+    let time = ClockTime::shown_at(table, moment.second);
     timed.push(TimedMoment { moment, time })?;
     Ok(())
 }
@@ -137,8 +137,8 @@ fn push_window(
     ensures { (windows : List Window) → AreTimedWindows (table_zone table.now) windows timed.old.items
         → OnOk result (AreTimedWindows (table_zone table.now) (windows ++ window ∷ []) timed.new.items) }
 {
-    let from = ClockTime::at(table, window.from.second);
-    let until = ClockTime::at(table, window.until.second);
+    let from = ClockTime::shown_at(table, window.from.second);
+    let until = ClockTime::shown_at(table, window.until.second);
     timed.push(TimedWindow {
         window,
         from,
@@ -181,8 +181,8 @@ fn timed_change(table: &ClockTable, change: ClockChange) -> TimedChange
 {
     TimedChange {
         change,
-        before: ClockTime::at(table, change.second.saturating_sub(1)),
-        shown: ClockTime::at(table, change.second),
+        before: ClockTime::shown_at(table, change.second.saturating_sub(1)),
+        shown: ClockTime::shown_at(table, change.second),
     }
 }
 

@@ -63,7 +63,7 @@ fn runs<T: Moment>(
                 inclusive = false;
             }
             Err(refused) => {
-                runs.push(shown::refused(alloc, &refused)?)?;
+                runs.push(shown::refusal_value(alloc, &refused)?)?;
                 break;
             }
         }
@@ -81,12 +81,12 @@ fn items<T: Moment>(
     let (how, count) = (How::read(question)?, number_at(question, "count")?);
     let mut runs = Runs::new(subject, start, how)?;
     if switch(question, "copied")? {
-        return listed(alloc, &mut runs.copied()?, count);
+        return listed_runs(alloc, &mut runs.copied()?, count);
     }
-    listed(alloc, &mut runs, count)
+    listed_runs(alloc, &mut runs, count)
 }
 
-fn listed<T: Moment>(alloc: Global, runs: &mut Runs<'_, T>, count: u64) -> Result<Value> {
+fn listed_runs<T: Moment>(alloc: Global, runs: &mut Runs<'_, T>, count: u64) -> Result<Value> {
     let mut items = Vec::new(alloc);
     for _ in 0..count {
         items.push(runs.item(alloc)?)?;

@@ -16,7 +16,7 @@ pub fn cronrun(alloc: Global, question: &Value) -> Result<Value> {
 }
 
 fn answer(alloc: Global, status: u8, out: &[u8], err: &[u8]) -> Result<Value> {
-    let (out, err) = (written(alloc, out)?, written(alloc, err)?);
+    let (out, err) = (written_value(alloc, out)?, written_value(alloc, err)?);
     let answer = format!(in alloc; "{{\"status\":{status},\"stdout\":{out},\"stderr\":{err}}}");
     shown::object(alloc, answer)
 }
@@ -29,6 +29,6 @@ fn words(alloc: Global, items: &[Value]) -> Result<Vec<String>> {
     Ok(words)
 }
 
-fn written(alloc: Global, bytes: &[u8]) -> Result<Value, AllocError> {
+fn written_value(alloc: Global, bytes: &[u8]) -> Result<Value, AllocError> {
     Ok(Value::String(String::from_utf8_lossy(alloc, bytes)?))
 }

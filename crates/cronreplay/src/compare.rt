@@ -9,10 +9,10 @@ use std::alloc::Global;
 pub fn compare(alloc: Global, question: &Value) -> Result<Value> {
     let a = pattern_of(alloc, member(question, "a")?)?;
     let b = pattern_of(alloc, member(question, "b")?)?;
-    compared(alloc, &a, &b)
+    comparison(alloc, &a, &b)
 }
 
-fn compared(alloc: Global, a: &CronPattern, b: &CronPattern) -> Result<Value> {
+fn comparison(alloc: Global, a: &CronPattern, b: &CronPattern) -> Result<Value> {
     let equal = *a == *b;
     if equal && hash_of(a) != hash_of(b) {
         return shown::text(alloc, "hash");

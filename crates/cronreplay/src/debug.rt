@@ -26,41 +26,41 @@ pub fn debug(alloc: Global, question: &Value) -> Result<Value> {
 
 fn value(alloc: Global, name: &str) -> Result<String> {
     match name {
-        "weekday" => debugged(alloc, &Weekday::Friday),
-        "direction" => debugged(alloc, &Direction::Backward),
-        "component" => debugged(alloc, &TimeComponent::Hour),
-        "job_type" => debugged(alloc, &JobType::FixedTime),
-        "seconds" => debugged(alloc, &Seconds::Required),
-        "year" => debugged(alloc, &Year::Optional),
-        "parser" => debugged(alloc, &CronParser::new()),
-        "builder" => debugged(alloc, &CronParser::builder()),
-        "empty" => debugged(alloc, &CronError::EmptyPattern),
+        "weekday" => debug_text(alloc, &Weekday::Friday),
+        "direction" => debug_text(alloc, &Direction::Backward),
+        "component" => debug_text(alloc, &TimeComponent::Hour),
+        "job_type" => debug_text(alloc, &JobType::FixedTime),
+        "seconds" => debug_text(alloc, &Seconds::Required),
+        "year" => debug_text(alloc, &Year::Optional),
+        "parser" => debug_text(alloc, &CronParser::new()),
+        "builder" => debug_text(alloc, &CronParser::builder()),
+        "empty" => debug_text(alloc, &CronError::EmptyPattern),
         _ => made_value(alloc, name),
     }
 }
 
 fn made_value(alloc: Global, name: &str) -> Result<String> {
     match name {
-        "error" => copied(
+        "error" => copy_text(
             alloc,
             &CronError::InvalidPattern(String::from_str(alloc, "one")?),
         ),
-        "civil" => debugged(alloc, &CivilDateTime::from_ymd_hms(2024, 2, 29, 1, 2, 3)?),
-        "field" => debugged(alloc, &CronComponent::new(alloc, 0, 1, NONE_BIT, 0)?),
+        "civil" => debug_text(alloc, &CivilDateTime::from_ymd_hms(2024, 2, 29, 1, 2, 3)?),
+        "field" => debug_text(alloc, &CronComponent::new(alloc, 0, 1, NONE_BIT, 0)?),
         "time" => time(alloc),
         "resolution" => resolution(alloc),
-        "job" => copied(alloc, &Cron::from_str(alloc, "5 4 * * *")?),
-        "pattern" => copied(alloc, &Cron::from_str(alloc, "5 4 * * *")?.pattern),
+        "job" => copy_text(alloc, &Cron::from_str(alloc, "5 4 * * *")?),
+        "pattern" => copy_text(alloc, &Cron::from_str(alloc, "5 4 * * *")?.pattern),
         _ => Err(Fault::Malformed),
     }
 }
 
 fn time(alloc: Global) -> Result<String> {
     let clock = clock(alloc, 0, (0, 7200))?;
-    debugged(alloc, &TableTime::new(&clock, 5)?)
+    debug_text(alloc, &TableTime::new(&clock, 5)?)
 }
 
-fn debugged<T: Debug>(alloc: Global, value: &T) -> Result<String> {
+fn debug_text<T: Debug>(alloc: Global, value: &T) -> Result<String> {
     Ok(format!(in alloc; "{value:?}")?)
 }
 
@@ -68,7 +68,7 @@ fn debugged<T: Debug>(alloc: Global, value: &T) -> Result<String> {
 fn resolution(alloc: Global) -> Result<String> {
     let clock = clock(alloc, 7200, (0, 7199))?;
     let time = TableTime::new(&clock, 0)?;
-    debugged(alloc, &time.resolve_civil(alloc, time.to_civil())?)
+    debug_text(alloc, &time.resolve_civil(alloc, time.to_civil())?)
 }
 
 fn clock(alloc: Global, first: i32, change: (i64, i32)) -> Result<ClockTable> {
@@ -78,9 +78,9 @@ fn clock(alloc: Global, first: i32, change: (i64, i32)) -> Result<ClockTable> {
 }
 
 // What is shown of a copy.
-fn copied<T: Clone + Debug + Drop>(alloc: Global, original: &T) -> Result<String> {
+fn copy_text<T: Clone + Debug + Drop>(alloc: Global, original: &T) -> Result<String> {
     let copy: T = original.clone()?;
-    let text = debugged(alloc, &copy);
+    let text = debug_text(alloc, &copy);
     drop(copy);
     text
 }

@@ -14,7 +14,7 @@ pub fn explain(alloc: Global, question: &Value) -> Result<Value> {
         parser.explain(alloc, text)?,
         Job::of_text(alloc, question, text),
     ) {
-        (Some(fault), Err(Fault::Refused(error))) => told(alloc, &fault, &error),
+        (Some(fault), Err(Fault::Refused(error))) => told_message(alloc, &fault, &error),
         (None, Ok(_)) => shown::text(alloc, "accepted"),
         (Some(_), Ok(_)) => shown::text(alloc, "refused by explain alone"),
         (None, Err(Fault::Refused(_))) => shown::text(alloc, "refused by parse alone"),
@@ -23,7 +23,7 @@ pub fn explain(alloc: Global, question: &Value) -> Result<Value> {
 }
 
 // The message of `parse`, if its error is of the fault's kind and it contains what the fault says.
-fn told(alloc: Global, fault: &PatternFault, error: &CronError) -> Result<Value> {
+fn told_message(alloc: Global, fault: &PatternFault, error: &CronError) -> Result<Value> {
     if !is_kind(error, fault.kind) {
         return shown::text(alloc, "of another kind");
     }
@@ -55,7 +55,7 @@ pub fn suggest(alloc: Global, question: &Value) -> Result<Value> {
     let said = fault.to_string(alloc)?;
     match suggestion_in(said.as_str()) {
         None => Ok(Value::Null),
-        Some(suggestion) => followed(alloc, question, &fault, suggestion),
+        Some(suggestion) => followed_suggestion(alloc, question, &fault, suggestion),
     }
 }
 
@@ -69,7 +69,7 @@ fn suggestion_in(said: &str) -> Option<&str> {
     }
 }
 
-fn followed(
+fn followed_suggestion(
     alloc: Global,
     question: &Value,
     fault: &PatternFault,

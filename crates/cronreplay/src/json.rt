@@ -1,7 +1,7 @@
 //! Jobs as JSON: how they are printed, and whether they are read back.
 
 use croner::Cron;
-use croner_rows::{Fault, Job, Result, member, printed, shown};
+use croner_rows::{Fault, Job, Result, member, printed_text, shown};
 use serde_json::Value;
 use std::alloc::Global;
 
@@ -15,7 +15,7 @@ pub fn json_again(alloc: Global, question: &Value) -> Result<Value> {
 /// text.
 pub fn reread(alloc: Global, question: &Value, job: &Job) -> Result<Value> {
     let again = is_read_again(alloc, question, &job.cron)?;
-    let json = Value::String(printed(alloc, &job.cron.to_json()?)?);
+    let json = Value::String(printed_text(alloc, &job.cron.to_json()?)?);
     let answer = format!(in alloc; "{{\"json\":{json},\"again\":{again}}}");
     shown::object(alloc, answer)
 }

@@ -54,7 +54,7 @@ fn law_of_job(alloc: Global, question: &Value, name: &str, job: &Job) -> Result<
     match name {
         "next_runs" => runs(alloc, job, civil_value(question, "start")?),
         "items_in_order" => order(alloc, job, civil_value(question, "start")?),
-        "there_and_back" => back(alloc, job, &civil_value(question, "start")?),
+        "there_and_back" => next_and_back(alloc, job, &civil_value(question, "start")?),
         _ => over_backend(alloc, question, name, job),
     }
 }
@@ -80,7 +80,7 @@ fn order(alloc: Global, job: &Job, start: DateTime) -> Result<Value> {
 }
 
 // The next run after a run, and the one before that.
-fn back(alloc: Global, job: &Job, run: &DateTime) -> Result<Value> {
+fn next_and_back(alloc: Global, job: &Job, run: &DateTime) -> Result<Value> {
     let (there, back) = there_and_back(&job.cron, run)?;
     times(alloc, [there, back?].as_slice())
 }

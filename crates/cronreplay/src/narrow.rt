@@ -34,9 +34,9 @@ fn answer_between(
     start: NarrowTime<'_>,
 ) -> Result<Value> {
     let (direction, inclusive) = how.search();
-    let found = found(alloc, subject.run_from(&start, inclusive, direction))?;
+    let found = found_value(alloc, subject.run_from(&start, inclusive, direction))?;
     let mut runs = Runs::new(subject, start, how)?;
-    let given = given(alloc, &mut runs)?;
+    let given = given_value(alloc, &mut runs)?;
     let again = runs.fault().is_none() || runs.item(alloc)? == given;
     if given == found && again {
         return Ok(found);
@@ -44,17 +44,17 @@ fn answer_between(
     shown::pair(alloc, found, given)
 }
 
-fn found(alloc: Global, found: Result<Run<NarrowTime<'_>>, CronError>) -> Result<Value> {
+fn found_value(alloc: Global, found: Result<Run<NarrowTime<'_>>, CronError>) -> Result<Value> {
     match found {
         Ok(run) => run.shown(alloc),
-        Err(error) => shown::refused(alloc, &error),
+        Err(error) => shown::refusal_value(alloc, &error),
     }
 }
 
 // The answer of a call. No item without a fault is the limit.
-fn given(alloc: Global, runs: &mut Runs<'_, NarrowTime<'_>>) -> Result<Value> {
+fn given_value(alloc: Global, runs: &mut Runs<'_, NarrowTime<'_>>) -> Result<Value> {
     match runs.item(alloc)? {
-        Value::Null => shown::refused(alloc, &CronError::TimeSearchLimitExceeded),
+        Value::Null => shown::refusal_value(alloc, &CronError::TimeSearchLimitExceeded),
         answer => Ok(answer),
     }
 }

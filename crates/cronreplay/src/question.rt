@@ -32,7 +32,7 @@ pub fn answer(alloc: Global, question: &Value) -> Result<Value> {
         "cronrun" => cronrun(alloc, question),
         "debug" => debug(alloc, question),
         "component_number" => values::number_of_part(question),
-        "shift" => values::shifted(question),
+        "shift" => values::shifted_weekday(question),
         "date" => values::date(alloc, question),
         "words" => values::words_of_language(alloc, question),
         "law" => law(alloc, question),
@@ -47,7 +47,7 @@ pub fn answer(alloc: Global, question: &Value) -> Result<Value> {
 }
 
 fn answer_on_clock(alloc: Global, question: &Value, ask: Ask<'_>) -> Result<Value> {
-    answer_from_start(Caller::unmarked(alloc), question, ask)?.into_value(alloc)
+    answer_from_start(Caller::without_marks(alloc), question, ask)?.into_value(alloc)
 }
 
 // Whether a table is accepted.
@@ -59,7 +59,7 @@ fn table_made(alloc: Global, question: &Value) -> Result<Value> {
 fn answer_on_table(alloc: Global, question: &Value, op: &str, table: &CronTable) -> Result<Value> {
     match op {
         "place" => tables::place(alloc, question, table),
-        "taken_up" => tables::taken_up(alloc, question, table),
+        "taken_up" => tables::items_taken_up(alloc, question, table),
         op => match of_runs(Subject::Table(table), op) {
             Some(ask) => answer_on_clock(alloc, question, ask),
             None => Err(Fault::Unsupported),
@@ -83,7 +83,7 @@ fn answer_of_job(alloc: Global, question: &Value, op: &str) -> Result<Value> {
         "next" | "prev" | "iter" | "reread" | "bounds" => {
             answer_on(alloc, question, op, &Job::read(alloc, question)?)
         }
-        op => ask(Caller::unmarked(alloc), question, op)?.into_value(alloc),
+        op => ask(Caller::without_marks(alloc), question, op)?.into_value(alloc),
     }
 }
 

@@ -42,11 +42,11 @@ impl Tool for Replay {
 fn refused(alloc: Global, question: &Value, error: &CronError) -> Result<Value> {
     match question.get("message") {
         None => shown::refused(alloc, error),
-        Some(form) => told(alloc, form.as_u64(), error),
+        Some(form) => message_or_length(alloc, form.as_u64(), error),
     }
 }
 
-fn told(alloc: Global, most: Option<u64>, error: &CronError) -> Result<Value> {
+fn message_or_length(alloc: Global, most: Option<u64>, error: &CronError) -> Result<Value> {
     let message = error.to_string(alloc)?;
     let bytes = message.len() as u64;
     match most {

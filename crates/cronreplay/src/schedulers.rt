@@ -28,5 +28,5 @@ impl<'q> OverClocks for Calls<'q> {
 
 /// The answers of the calls of a question, on a scheduler that begins without jobs.
 pub fn scheduler(alloc: Global, question: &Value) -> Result<Value> {
-    over_clocks(Caller::unmarked(alloc), question, &Calls { question })?.into_value(alloc)
+    over_clocks(Caller::without_marks(alloc), question, &Calls { question })?.into_value(alloc)
 }

@@ -16,12 +16,12 @@ pub fn starts(alloc: Global, question: &Value) -> Result<Value> {
 
 fn starts_on(alloc: Global, question: &Value, table: &ClockTable) -> Result<Value> {
     let line = text(question, "line")?;
-    let job = job_of(alloc, line)?;
+    let job = job_in_text(alloc, line)?;
     starts_of(alloc, question, table, &job)
 }
 
 // The job of a line of a user's crontab.
-fn job_of(alloc: Global, line: &str) -> Result<CrontabJob> {
+fn job_in_text(alloc: Global, line: &str) -> Result<CrontabJob> {
     let Entry::Job(line) = entry_of(alloc, Dialect::User, line.as_bytes())? else {
         return Err(Fault::Malformed);
     };
@@ -43,12 +43,12 @@ fn starts_of(
     let most: u32 = number_at(question, "count")?;
     match question.get("until") {
         Some(until) => listing(alloc, job, start, number(until)?, most),
-        None => searched(alloc, job, start, direction(question)?, most),
+        None => nearest_starts(alloc, job, start, direction(question)?, most),
     }
 }
 
 // At most so many starts, nearest first. Where none is left, null is the last.
-fn searched(
+fn nearest_starts(
     alloc: Global,
     job: &CrontabJob,
     from: TableTime<'_>,
@@ -58,18 +58,18 @@ fn searched(
     let mut at = from;
     let mut found = Vec::new(alloc);
     for _ in 0..most {
-        let Some(start) = nearest(job, &at, direction) else {
+        let Some(start) = nearest_start(job, &at, direction) else {
             found.push(Value::Null)?;
             break;
         };
         found.push(shown_start(alloc, start)?)?;
-        at = TableTime::new(at.table(), second_behind(start, direction))?;
+        at = TableTime::new(at.table(), second_after(start, direction))?;
     }
     Ok(Value::Array(found))
 }
 
 // The first start after a time, or the last up to it.
-fn nearest(job: &CrontabJob, at: &TableTime<'_>, direction: Direction) -> Option<Start> {
+fn nearest_start(job: &CrontabJob, at: &TableTime<'_>, direction: Direction) -> Option<Start> {
     match direction {
         Direction::Forward => job.next_after(at),
         Direction::Backward => job.last_until(at),
@@ -77,7 +77,7 @@ fn nearest(job: &CrontabJob, at: &TableTime<'_>, direction: Direction) -> Option
 }
 
 // The second from which a search goes on after a start.
-fn second_behind(start: Start, direction: Direction) -> i64 {
+fn second_after(start: Start, direction: Direction) -> i64 {
     match direction {
         Direction::Forward => start.second,
         Direction::Backward => start.second.saturating_sub(1),

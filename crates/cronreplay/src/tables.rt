@@ -2,7 +2,7 @@
 
 use croner::crontable::CronTable;
 use croner::errors::CronError;
-use croner::laws::crontable::{next_table_runs, resumed_table};
+use croner::laws::crontable::{next_table_runs, resume_table_after};
 use croner::time::Direction;
 use croner_rows::{Caller, Fault, Job, Result, Run, Runs, Table, civil_value, number_at, shown};
 use serde_json::Value;
@@ -23,21 +23,21 @@ pub fn place(alloc: Global, question: &Value, table: &CronTable) -> Result<Value
 /// after a start.
 pub fn change(alloc: Global, question: &Value) -> Result<Value> {
     let mut table = Table::read(alloc, question)?;
-    let out = table.change(Caller::unmarked(alloc), question)?;
-    let (out, jobs) = (text_of(alloc, &out)?, texts_of(alloc, &table.jobs)?);
+    let out = table.change(Caller::without_marks(alloc), question)?;
+    let (out, jobs) = (job_text(alloc, &out)?, job_texts(alloc, &table.jobs)?);
     let next = next_places(alloc, question, &table.jobs)?;
     let answer = format!(in alloc; "{{\"out\":{out},\"jobs\":{jobs},\"next\":{next}}}");
     shown::object(alloc, answer)
 }
 
-fn text_of(alloc: Global, job: &Option<Job>) -> Result<Value> {
+fn job_text(alloc: Global, job: &Option<Job>) -> Result<Value> {
     match job {
         None => Ok(Value::Null),
         Some(job) => shown::text(alloc, job.cron.as_str()),
     }
 }
 
-fn texts_of(alloc: Global, table: &CronTable) -> Result<Value> {
+fn job_texts(alloc: Global, table: &CronTable) -> Result<Value> {
     let mut texts = Vec::new(alloc);
     for job in table.iter() {
         texts.push(shown::text(alloc, job.as_str())?)?;
@@ -55,7 +55,7 @@ fn next_places(alloc: Global, question: &Value, table: &CronTable) -> Result<Val
 }
 
 /// The first two items of a listing, whether it is over, and the next item of one that is resumed from the second.
-pub fn taken_up(alloc: Global, question: &Value, table: &CronTable) -> Result<Value> {
+pub fn items_taken_up(alloc: Global, question: &Value, table: &CronTable) -> Result<Value> {
     let table = table.clone()?;
     let start = civil_value(question, "start")?;
     let mut runs = table.iter_after(start).clone()?;
@@ -63,7 +63,7 @@ pub fn taken_up(alloc: Global, question: &Value, table: &CronTable) -> Result<Va
     let Some((last, _)) = items.last() else {
         return Err(Fault::Malformed);
     };
-    let next = Runs::OfTable(resumed_table(&table, *last, Direction::Forward)).next();
+    let next = Runs::OfTable(resume_table_after(&table, *last, Direction::Forward)).next();
     let mut shown = Vec::new(alloc);
     for run in items {
         shown.push(Run::of_table(run).shown(alloc)?)?;

@@ -2,12 +2,12 @@
 #![tactic(auto)]
 
 use croner::errors::CronError;
-use cronrun_command::{REFUSED, misused, run};
+use cronrun_command::{REFUSED, run, write_usage};
 use std::io::{BufWriter, ErrorKind};
 use std::process::ExitCode;
 use std::{env, io};
 
-// The words behind the program's own name. One that is not UTF-8 is an error of the kind
+// The words after the program's own name. One that is not UTF-8 is an error of the kind
 // `InvalidData`.
 fn words(rt: &HostRuntime) -> io::Result<Vec<String>> {
     let mut words = Vec::new(rt.alloc());
@@ -27,7 +27,7 @@ fn answer(rt: &HostRuntime) -> io::Result<u8> {
 fn main(rt: HostRuntime) -> ExitCode {
     let status = match answer(&rt) {
         Ok(status) => status,
-        Err(error) if error.kind() == ErrorKind::InvalidData => misused(&mut rt.stderr()),
+        Err(error) if error.kind() == ErrorKind::InvalidData => write_usage(&mut rt.stderr()),
         Err(error) if error.kind() == ErrorKind::OutOfMemory => {
             let _ = eprintln!(rt; "{}", CronError::OutOfMemory);
             REFUSED

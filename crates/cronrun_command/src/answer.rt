@@ -90,12 +90,12 @@ fn description_line(alloc: Global, pattern: &str) -> Result<String, CronError>
     ensures value { IfOk result (λ text. IsDescriptionText pattern.now (string_bytes text)) }
     ensures err { IfErr result (IsUnread (outcome default_settings pattern.now)) }
 {
-    let text = described(alloc, pattern)?;
-    ended(text)
+    let text = description_of(alloc, pattern)?;
+    with_line_feed(text)
 }
 
 // A text with a line feed after it.
-fn ended(mut text: String) -> Result<String, CronError>
+fn with_line_feed(mut text: String) -> Result<String, CronError>
     ensures value { IfOk result (λ line. string_bytes line ≡ string_bytes text ++ 10 ∷ []) }
     ensures err { IfErr result (λ e. e ≡ CronError.OutOfMemory) }
 {
@@ -110,11 +110,11 @@ fn match_line(alloc: Global, pattern: &str, at: CivilDateTime) -> Result<String,
         (IsUnopened (outcome default_settings pattern.now) (start_instant (civil_zone.resolves at))) }
 {
     let matching = is_match(alloc, pattern, at)?;
-    truth(alloc, matching)
+    boolean_line(alloc, matching)
 }
 
 // The word for a boolean, as a line.
-fn truth(alloc: Global, held: bool) -> Result<String, CronError>
+fn boolean_line(alloc: Global, held: bool) -> Result<String, CronError>
     ensures value { IfOk result (λ line. string_bytes line ≡ bool_text held ++ 10 ∷ []) }
     ensures err { IfErr result (λ e. e ≡ CronError.OutOfMemory) }
 {
@@ -123,7 +123,7 @@ fn truth(alloc: Global, held: bool) -> Result<String, CronError>
 }
 
 // The description of a pattern in English.
-fn described(alloc: Global, pattern: &str) -> Result<String, CronError>
+fn description_of(alloc: Global, pattern: &str) -> Result<String, CronError>
     ensures value { IfOk result (λ text. (m : Meaning) × (outcome default_settings pattern.now ≡ Ok m)
         × (string_bytes text ≡ description english m)) }
     ensures err { IfErr result (IsUnread (outcome default_settings pattern.now)) }

@@ -70,7 +70,7 @@ pub fn run<O: Output, E: Output>(alloc: Global, words: &[String], out: &mut O, e
     ensures usage { result ≡ 2 → IsGiven E.contents E.writes err.old (Some (USAGE.now ++ 10 ∷ [])) err.new }
 {
     let Some(request) = Request::read(words) else {
-        return misused(err);
+        return write_usage(err);
     };
     conclude(answer_to(alloc, request), out, err)
 }
@@ -101,7 +101,7 @@ fn report<E: Output>(stop: Option<Stop>, err: &mut E) -> u8
 }
 
 /// Writes the usage line, and returns the status of words that aren't a call.
-pub fn misused<E: Output>(err: &mut E) -> u8
+pub fn write_usage<E: Output>(err: &mut E) -> u8
     ensures status { result ≡ 2 }
     ensures usage { IsGiven E.contents E.writes err.old (Some (USAGE.now ++ 10 ∷ [])) err.new }
 {

@@ -1,6 +1,6 @@
 //! `cronsummary`: what each pattern of standard input schedules. Each is a line of its own, and is answered by a line: the pattern, its
-//! summary in English and in Swedish, and whether these tell all of it, with tabs between. Behind `and ` both day fields of a
-//! pattern have to match. With an argument, whatever it is, the data of the summary stand behind. A line that begins with `#`
+//! summary in English and in Swedish, and whether these tell all of it, with tabs between. After `and ` both day fields of a
+//! pattern have to match. With an argument, whatever it is, the data of the summary stand after. A line that begins with `#`
 //! is passed over.
 #![tactic(auto)]
 

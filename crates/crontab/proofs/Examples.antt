@@ -44,9 +44,9 @@ quotes : entry_of dialects.User (34 ∷ (codes "A" ++ (34 ∷ codes " = 'x y' ")
 unfolding digits
 quotes = refl
 
-behind_quotes : entry_of dialects.User (codes "A='x' y") ≡ refused faults.Minutes
+after_quotes : entry_of dialects.User (codes "A='x' y") ≡ refused faults.Minutes
 unfolding digits
-behind_quotes = refl
+after_quotes = refl
 
 no_value : entry_of dialects.User (codes "A=") ≡ refused faults.Minutes
 unfolding digits
@@ -130,9 +130,9 @@ an_empty_part : entry_of dialects.User (codes "5,,10 * * * * x") ≡ refused fau
 unfolding digits
 an_empty_part = refl
 
-a_step_behind_a_value : entry_of dialects.User (codes "1/2 * * * * x") ≡ refused faults.Minutes
+a_step_after_a_value : entry_of dialects.User (codes "1/2 * * * * x") ≡ refused faults.Minutes
 unfolding digits
-a_step_behind_a_value = refl
+a_step_after_a_value = refl
 
 no_step : entry_of dialects.User (codes "*/0 * * * * x") ≡ refused faults.Minutes
 unfolding digits
@@ -215,9 +215,9 @@ a_user : entry_of dialects.System (codes "@daily root  x") ≡ job (record { tim
 unfolding digits
 a_user = refl
 
-no_blank_behind_a_user : entry_of dialects.System (codes "@daily root") ≡ refused faults.User
+no_blank_after_a_user : entry_of dialects.System (codes "@daily root") ≡ refused faults.User
 unfolding digits
-no_blank_behind_a_user = refl
+no_blank_after_a_user = refl
 
 a_command_of_a_user_with_a_star : entry_of dialects.System (codes "* * * * * root *x") ≡ job (record { times = named (codes "* * * * *") true; schedule = codes "* * * * *"; user = Some (codes "root"); command = codes "*x" })
 unfolding digits
@@ -258,8 +258,8 @@ a_variable_in_single_quotes = refl
 a_home_at_the_head : is_not_expanded (codes "A=~/bin") ≡ true
 a_home_at_the_head = refl
 
-a_home_behind_a_colon : is_not_expanded (codes "PATH=/bin:~/bin") ≡ true
-a_home_behind_a_colon = refl
+a_home_after_a_colon : is_not_expanded (codes "PATH=/bin:~/bin") ≡ true
+a_home_after_a_colon = refl
 
 a_home_in_quotes : is_not_expanded (codes "A=" ++ (34 ∷ (codes "~/bin" ++ (34 ∷ [])))) ≡ true
 a_home_in_quotes = refl
@@ -270,8 +270,8 @@ a_tilde_within = refl
 a_tilde_alone : is_not_expanded (codes "A=~") ≡ false
 a_tilde_alone = refl
 
-a_comment_behind_a_value : is_not_expanded (codes "A=b # c") ≡ true
-a_comment_behind_a_value = refl
+a_comment_after_a_value : is_not_expanded (codes "A=b # c") ≡ true
+a_comment_after_a_value = refl
 
 a_sign_within_a_word : is_not_expanded (codes "A=b#c") ≡ false
 a_sign_within_a_word = refl
@@ -279,8 +279,8 @@ a_sign_within_a_word = refl
 a_colour : is_not_expanded (codes "A=#fff") ≡ false
 a_colour = refl
 
-a_sign_in_quotes_behind_a_blank : is_not_expanded (codes "A='b #c'") ≡ false
-a_sign_in_quotes_behind_a_blank = refl
+a_sign_in_quotes_after_a_blank : is_not_expanded (codes "A='b #c'") ≡ false
+a_sign_in_quotes_after_a_blank = refl
 
 a_value_as_it_stands : is_not_expanded (codes "PATH=/usr/bin:/bin") ≡ false
 a_value_as_it_stands = refl

@@ -17,8 +17,8 @@ a_star_alone_in_a_day_field = refl
 either_day : is_noted notes.StarDay None (codes "0 0 1-31/2 * 1 x") ≡ false
 either_day = refl
 
-a_star_day_behind_a_nickname : is_noted notes.StarDay None (codes "@daily a */2 b c") ≡ false
-a_star_day_behind_a_nickname = refl
+a_star_day_after_a_nickname : is_noted notes.StarDay None (codes "@daily a */2 b c") ≡ false
+a_star_day_after_a_nickname = refl
 
 -- bytes of a field that are passed over
 a_sign_of_an_nth_weekday : has_passed_over weekday_place (codes "1#2") ≡ true
@@ -40,8 +40,8 @@ parts_alone = refl
 a_star_in_front : is_noted notes.StarAmongParts None (codes "*,5 * * * * x") ≡ true
 a_star_in_front = refl
 
-a_star_behind : is_noted notes.StarAmongParts None (codes "0 0 5,* * 1 x") ≡ true
-a_star_behind = refl
+a_star_after : is_noted notes.StarAmongParts None (codes "0 0 5,* * 1 x") ≡ true
+a_star_after = refl
 
 a_star_alone : is_noted notes.StarAmongParts None (codes "* * * * * x") ≡ false
 a_star_alone = refl
@@ -114,11 +114,11 @@ a_number_that_is_passed_over = refl
 nothing_between_commas : is_noted notes.EmptyPart (Some faults.Minutes) (codes "5,,10 * * * * x") ≡ true
 nothing_between_commas = refl
 
-a_blank_behind_a_comma : is_noted notes.EmptyPart (Some faults.Minutes) (codes "5, 10 * * * x") ≡ true
-a_blank_behind_a_comma = refl
+a_blank_after_a_comma : is_noted notes.EmptyPart (Some faults.Minutes) (codes "5, 10 * * * x") ≡ true
+a_blank_after_a_comma = refl
 
-a_comma_behind_the_last : is_noted notes.EmptyPart (Some faults.Weekdays) (codes "0 0 * * 1, x") ≡ true
-a_comma_behind_the_last = refl
+a_comma_after_the_last : is_noted notes.EmptyPart (Some faults.Weekdays) (codes "0 0 * * 1, x") ≡ true
+a_comma_after_the_last = refl
 
 parts_that_are_out_of_bounds : is_noted notes.EmptyPart (Some faults.Minutes) (codes "5,60 * * * * x") ≡ false
 parts_that_are_out_of_bounds = refl

@@ -39,8 +39,8 @@ abbrev pub front : Kind → List ℕ → List ℕ
 front kind text = take (prefix_len (is_of kind) text) text
 
 -- what follows the bytes of a kind with which a text begins
-abbrev pub behind : Kind → List ℕ → List ℕ
-behind kind text = drop (prefix_len (is_of kind) text) text
+abbrev pub text_after : Kind → List ℕ → List ℕ
+text_after kind text = drop (prefix_len (is_of kind) text) text
 
 -- the text begins with this byte
 abbrev pub begins_with : ℕ → List ℕ → Bool
@@ -53,9 +53,9 @@ rest_of [] = []
 rest_of (b ∷ bs) = bs
 
 -- the text up to its end, which is given
-abbrev pub until : List ℕ → List ℕ → List ℕ
-until text behind = take (length text - length behind) text
+abbrev pub text_before : List ℕ → List ℕ → List ℕ
+text_before text after = take (length text - length after) text
 
 -- the text without the spaces after it
-abbrev pub trimmed : List ℕ → List ℕ
-trimmed text = take (length text - suffix_len is_space text) text
+abbrev pub trim_end : List ℕ → List ℕ
+trim_end text = take (length text - suffix_len is_space text) text

@@ -4,7 +4,7 @@ use Rattle.crontab.specs.declared.line.Dialect.{Dialect}
 use Rattle.crontab.specs.declared.line.Entry.{Entry}
 use Rattle.crontab.specs.Entries.{entry_seen, place_seen}
 use Rattle.crontab.specs.Line.{Line, is_system, entry_of}
-use Rattle.crontab.specs.Lines.{AreLines, unfed, is_fed}
+use Rattle.crontab.specs.Lines.{AreLines, without_line_feed, is_fed}
 use Rattle.crontab.specs.Place.{place_of}
 
 -- a line that was read: its bytes without its line feed, what it is, the place of its fault, if it is refused, and whether it has a line feed
@@ -21,7 +21,7 @@ read_in dialect bytes is_fed =
 
 -- a line with or without its line feed
 abbrev pub entry_of_line : Dialect → List ℕ → LineRead
-entry_of_line dialect line = read_in dialect (unfed line) (is_fed line)
+entry_of_line dialect line = read_in dialect (without_line_feed line) (is_fed line)
 
 -- what an entry of these bytes says of them
 abbrev pub line_seen : List ℕ → Entry → Bool → LineRead

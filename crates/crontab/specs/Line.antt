@@ -8,7 +8,7 @@ use Rattle.crontab.specs.declared.line.Dialect.{Dialect}
 use Rattle.crontab.specs.declared.line.Dialect.TheVariants as dialects
 use Rattle.crontab.specs.declared.line.Fault.{Fault}
 use Rattle.crontab.specs.declared.line.Fault.TheVariants as faults
-use Rattle.crontab.specs.Bytes.{front, behind, begins_with, rest_of, until, trimmed}
+use Rattle.crontab.specs.Bytes.{front, text_after, begins_with, rest_of, text_before, trim_end}
 use Rattle.crontab.specs.List.{field_text}
 use Rattle.crontab.specs.Setting.{has, is_setting, sets_zone}
 
@@ -63,11 +63,11 @@ pub record Five : Type 0 where
 
 -- what follows the first word and the blanks after it
 abbrev pub next : List ℕ → List ℕ
-next text = behind kinds.Blank (behind kinds.Word text)
+next text = text_after kinds.Blank (text_after kinds.Word text)
 
 -- what directly follows the fifth word
-abbrev pub behind_fields : List ℕ → List ℕ
-behind_fields text = behind kinds.Word (next (next (next (next text))))
+abbrev pub text_after_fields : List ℕ → List ℕ
+text_after_fields text = text_after kinds.Word (next (next (next (next text))))
 
 -- the five words with which a text begins
 abbrev pub words_of : List ℕ → Five
@@ -85,16 +85,16 @@ abbrev pub are_both : Five → Bool
 are_both w = begins_with 42 w.days || begins_with 42 w.weekdays
 
 -- five texts as one
-abbrev pub spaced : List ℕ → List ℕ → List ℕ → List ℕ → List ℕ → List ℕ
-spaced a b c d e = a ++ (32 ∷ (b ++ (32 ∷ (c ++ (32 ∷ (d ++ (32 ∷ e)))))))
+abbrev pub spaced_text : List ℕ → List ℕ → List ℕ → List ℕ → List ℕ → List ℕ
+spaced_text a b c d e = a ++ (32 ∷ (b ++ (32 ∷ (c ++ (32 ∷ (d ++ (32 ∷ e)))))))
 
 -- the times of five fields. A day field that names nothing leaves the days to the other where either may match, and else there are none
-abbrev pub scheduled : Bool → List ℕ → List ℕ → List ℕ → List ℕ → List ℕ → Timing
-scheduled both minutes hours days months weekdays =
+abbrev pub times_of_fields : Bool → List ℕ → List ℕ → List ℕ → List ℕ → List ℕ → Timing
+times_of_fields both minutes hours days months weekdays =
     if length minutes == 0 || (length hours == 0 || length months == 0) then never
-    else if length days == 0 then (if both || length weekdays == 0 then never else named (spaced minutes hours (codes "*") months weekdays) both)
-    else if length weekdays == 0 then (if both then never else named (spaced minutes hours days months (codes "*")) both)
-    else named (spaced minutes hours days months weekdays) both
+    else if length days == 0 then (if both || length weekdays == 0 then never else named (spaced_text minutes hours (codes "*") months weekdays) both)
+    else if length weekdays == 0 then (if both then never else named (spaced_text minutes hours days months (codes "*")) both)
+    else named (spaced_text minutes hours days months weekdays) both
 
 -- goes on with what was read, or is the fault
 abbrev pub with : {X Y : Type 0} → Option X → Fault → (X → Result Y Fault) → Result Y Fault
@@ -124,7 +124,7 @@ abbrev pub times_of_texts : Five → Result FiveTexts Fault → Result Timing Fa
 times_of_texts w (Err fault) = Err fault
 times_of_texts w (Ok t) =
     if begins_with 255 w.rest then Err faults.Weekdays
-    else Ok (scheduled (are_both w) t.minutes t.hours t.days t.months t.weekdays)
+    else Ok (times_of_fields (are_both w) t.minutes t.hours t.days t.months t.weekdays)
 
 -- when a job of five words runs, or the field at fault
 abbrev pub times_of : Five → Result Timing Fault
@@ -158,41 +158,41 @@ with_command times schedule user command =
     else job (record { times = times; schedule = schedule; user = user; command = command })
 
 -- after the times stands the command, which may be empty and may not begin with a star
-abbrev pub commanded : Timing → List ℕ → List ℕ → Line
-commanded times schedule rest = if begins_with 42 rest then refused faults.Command else with_command times schedule None rest
+abbrev pub job_of_user : Timing → List ℕ → List ℕ → Line
+job_of_user times schedule rest = if begins_with 42 rest then refused faults.Command else with_command times schedule None rest
 
 -- or a user's name, one blank and the command
-abbrev pub commanded_by : Timing → List ℕ → List ℕ → Line
-commanded_by times schedule rest =
-    if length (front kinds.Word rest) == 0 || length (behind kinds.Word rest) == 0 then refused faults.User
-    else with_command times schedule (Some (front kinds.Word rest)) (rest_of (behind kinds.Word rest))
+abbrev pub job_of_system : Timing → List ℕ → List ℕ → Line
+job_of_system times schedule rest =
+    if length (front kinds.Word rest) == 0 || length (text_after kinds.Word rest) == 0 then refused faults.User
+    else with_command times schedule (Some (front kinds.Word rest)) (rest_of (text_after kinds.Word rest))
 
 -- the rest of a line whose times were read, in a crontab of the system or of a user
-abbrev pub timed : Bool → Timing → List ℕ → List ℕ → Line
-timed system times schedule rest = if system then commanded_by times schedule rest else commanded times schedule rest
+abbrev pub job_with_times : Bool → Timing → List ℕ → List ℕ → Line
+job_with_times system times schedule rest = if system then job_of_system times schedule rest else job_of_user times schedule rest
 
 -- a line with a nickname: its times are written as `@` and the word
-abbrev pub nicknamed : Bool → List ℕ → Option Timing → Line
-nicknamed system text None = refused faults.Nickname
-nicknamed system text (Some times) = timed system times (front kinds.Word text) (next text)
+abbrev pub job_of_nickname : Bool → List ℕ → Option Timing → Line
+job_of_nickname system text None = refused faults.Nickname
+job_of_nickname system text (Some times) = job_with_times system times (front kinds.Word text) (next text)
 
 -- a line with five fields: its times are written up to the end of the fifth
-abbrev pub fielded : Bool → List ℕ → Result Timing Fault → Line
-fielded system text (Err fault) = refused fault
-fielded system text (Ok times) = timed system times (until text (behind_fields text)) (words_of text).rest
+abbrev pub job_of_fields : Bool → List ℕ → Result Timing Fault → Line
+job_of_fields system text (Err fault) = refused fault
+job_of_fields system text (Ok times) = job_with_times system times (text_before text (text_after_fields text)) (words_of text).rest
 
 -- a line that is no setting
-abbrev pub job_of : Bool → List ℕ → Line
-job_of system text =
-    if begins_with 64 text then nicknamed system text (nickname_of (front kinds.Word (rest_of text)))
-    else fielded system text (times_of (words_of text))
+abbrev pub job_of_line : Bool → List ℕ → Line
+job_of_line system text =
+    if begins_with 64 text then job_of_nickname system text (nickname_of (front kinds.Word (rest_of text)))
+    else job_of_fields system text (times_of (words_of text))
 
 -- a line that begins with neither a blank nor a comment's sign
 abbrev pub entry_of_text : Bool → List ℕ → Line
 entry_of_text system text =
     if has 0 text then refused faults.Nul
     else if is_setting text then setting (sets_zone text)
-    else job_of system text
+    else job_of_line system text
 
 -- a crontab of the system
 abbrev pub is_system : Dialect → Bool
@@ -206,12 +206,12 @@ are_patterns other = false
 
 -- a line of a file of patterns: its text without the spaces after it, where any is left
 abbrev pub entry_of_pattern : List ℕ → Line
-entry_of_pattern text = if length (trimmed text) == 0 then blank else pattern (trimmed text)
+entry_of_pattern text = if length (trim_end text) == 0 then blank else pattern (trim_end text)
 
 -- a line, in a dialect
 abbrev pub entry_of : Dialect → List ℕ → Line
 entry_of dialect line =
-    let text = behind kinds.Blank line in
+    let text = text_after kinds.Blank line in
     if length text == 0 then blank
     else if begins_with 35 text then comment
     else if are_patterns dialect then entry_of_pattern text

@@ -16,8 +16,8 @@ abbrev pub ReadsLine : Option (List ℕ) → Option (List ℕ) → List ℕ → 
 ReadsLine old new line = IfSome old (λ text. (line ≡ take_through feed text) × (new ≡ Some (drop_through feed text)))
 
 -- a line without its line feed
-abbrev pub unfed : List ℕ → List ℕ
-unfed line = strip_last feed line
+abbrev pub without_line_feed : List ℕ → List ℕ
+without_line_feed line = strip_last feed line
 
 -- a line has a line feed
 abbrev pub is_fed : List ℕ → Bool

@@ -16,7 +16,7 @@ use Rattle.crontab.specs.declared.notes.Note.{Note}
 use Rattle.crontab.specs.declared.notes.Note.TheVariants as notes
 use Rattle.crontab.specs.declared.notes.Sign.{Sign}
 use Rattle.crontab.specs.declared.notes.Sign.TheVariants as signs
-use Rattle.crontab.specs.Bytes.{is_of, is_digit, is_alphanumeric, front, behind, begins_with, rest_of}
+use Rattle.crontab.specs.Bytes.{is_of, is_digit, is_alphanumeric, front, text_after, begins_with, rest_of}
 use Rattle.crontab.specs.Field.{with_digit, name_of, part_of}
 use Rattle.crontab.specs.List.{parts_of, are_uneven}
 use Rattle.crontab.specs.Line.{Five, minute_place, hour_place, day_place, month_place, weekday_place, next, words_of, are_both, nickname_of}
@@ -75,7 +75,7 @@ passes signs.Followed place piece = is_followed (part_of place piece)
 passes signs.Large place word = is_large word
 passes signs.Empty place piece = length piece == 0
 passes signs.OtherName place word = is_named word && is_none (name_of place.names word)
-passes signs.NamedStep place piece = is_named (front kinds.Alphanumeric (rest_of (behind (kinds.But 47) piece)))
+passes signs.NamedStep place piece = is_named (front kinds.Alphanumeric (rest_of (text_after (kinds.But 47) piece)))
 passes signs.DayModifier place word = reads (codes "l") word || (reads (codes "lw") word || is_numbered (codes "w") word)
 passes signs.NoWeekday place word = not (is_weekday_word place word)
 passes signs.WeekdayModifier place word = is_last_weekday word
@@ -230,7 +230,7 @@ is_text_noted note (Some fault) text w = is_refusal_noted note fault text w
 
 -- the same by the bytes of the line
 abbrev pub is_noted : Note → Option Fault → List ℕ → Bool
-is_noted note fault line = is_text_noted note fault (behind kinds.Blank line) (words_of (behind kinds.Blank line))
+is_noted note fault line = is_text_noted note fault (text_after kinds.Blank line) (words_of (text_after kinds.Blank line))
 
 -- all notes, in the order in which they are given
 abbrev pub all_notes : List Note

@@ -1,7 +1,7 @@
 //! The bytes of a line, and how cron cuts it.
 ghost use Rattle.std.specs.Prelude.{◌≡◌, ◌≤◌, ◌+◌, length};
 ghost use Rattle.std.specs.List.{prefix_len, suffix_len};
-ghost use Rattle.crontab.specs.Bytes.{is_blank, is_space, is_quote, is_digit, is_alphanumeric, is_of, front, behind, begins_with, rest_of, until, trimmed};
+ghost use Rattle.crontab.specs.Bytes.{is_blank, is_space, is_quote, is_digit, is_alphanumeric, is_of, front, text_after, begins_with, rest_of, text_before, trim_end};
 
 /// A kind of byte. A text is cut where a run of one kind ends.
 #[derive(Clone, Copy)]
@@ -76,7 +76,7 @@ fn front_len(text: &[u8], kind: Kind) -> usize
 /// The bytes of a kind that a text begins with, and what follows them.
 pub fn cut(text: &[u8], kind: Kind) -> (&[u8], &[u8])
     ensures front { result.0.now ≡ front kind text.now }
-    ensures behind { result.1.now ≡ behind kind text.now }
+    ensures after { result.1.now ≡ text_after kind text.now }
     ensures lengths { length result.0.now + length result.1.now ≡ length text.now }
 {
     text.split_at(front_len(text, kind))
@@ -102,12 +102,12 @@ pub fn rest_of(text: &[u8]) -> &[u8]
     }
 }
 
-/// The text up to its end `behind`: without as many of its last bytes as `behind` has, and empty where `behind` is
+/// The text up to its end `after`: without as many of its last bytes as `after` has, and empty where `after` is
 /// longer.
-pub fn until<'l>(text: &'l [u8], behind: &[u8]) -> &'l [u8]
-    ensures { result.now ≡ until text.now behind.now }
+pub fn text_before<'l>(text: &'l [u8], after: &[u8]) -> &'l [u8]
+    ensures { result.now ≡ text_before text.now after.now }
 {
-    let (front, _) = text.split_at(text.len().saturating_sub(behind.len()));
+    let (front, _) = text.split_at(text.len().saturating_sub(after.len()));
     front
 }
 
@@ -122,8 +122,8 @@ fn back_len(text: &[u8]) -> usize
 }
 
 /// The text without what C calls spaces at its end.
-pub fn trimmed(text: &[u8]) -> &[u8]
-    ensures { result.now ≡ trimmed text.now }
+pub fn trim_end(text: &[u8]) -> &[u8]
+    ensures { result.now ≡ trim_end text.now }
 {
     let (front, _) = text.split_at(text.len() - back_len(text));
     front

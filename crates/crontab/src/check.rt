@@ -3,7 +3,7 @@ ghost use Rattle.std.specs.Prelude.{OnOk};
 ghost use Rattle.crontab.specs.Checked.{entry_of_line, TakesAll};
 
 use crate::line::{Dialect, Entry, entry_of};
-use crate::lines::{read_line, unfed};
+use crate::lines::{read_line, without_line_feed};
 use std::alloc::Global;
 use std::io;
 use std::io::{BufRead, ErrorKind};
@@ -32,7 +32,7 @@ fn take_line<S: Entries>(
 ) -> io::Result<()>
     ensures { OnOk result (S.takes sink.old (entry_of_line dialect line.now) sink.new) }
 {
-    let (text, is_fed) = unfed(line);
+    let (text, is_fed) = without_line_feed(line);
     let entry = entry_of(alloc, dialect, text)?;
     sink.take(text, entry, is_fed)
 }

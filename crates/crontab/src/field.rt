@@ -4,7 +4,7 @@ ghost use Rattle.std.specs.Char.{to_ascii_lowercase};
 ghost use Rattle.std.specs.Str.{bytes_eq};
 ghost use Rattle.std.specs.List.{list_all};
 ghost use Rattle.crontab.specs.Bytes.{is_digit};
-ghost use Rattle.crontab.specs.Field.{most, with_digit, number_of, months, weekdays, place_of, name_of, value_of, value_at, is_within, is_step, ranged, stepped, from_value, part_of};
+ghost use Rattle.crontab.specs.Field.{most, with_digit, number_of, months, weekdays, place_of, name_of, value_of, value_at, is_within, is_step, part_in_place, part_with_step, part_from_value, part_of};
 
 use crate::bytes::{Kind, begins_with, cut, is_digit, rest_of};
 
@@ -171,9 +171,9 @@ fn value_of(names: Names, word: &[u8]) -> Option<u64>
 fn value_at(names: Names, text: &[u8]) -> Option<(u64, &[u8])>
     ensures { option_map (λ v. (v.0, v.1.now)) result ≡ value_at names text.now }
 {
-    let (word, behind) = cut(text, Kind::Alphanumeric);
+    let (word, after) = cut(text, Kind::Alphanumeric);
     match value_of(names, word) {
-        Some(value) => Some((value, behind)),
+        Some(value) => Some((value, after)),
         None => None,
     }
 }
@@ -192,9 +192,9 @@ fn is_step(first: u64, last: u64, step: u64) -> bool
         && (last < first || first.saturating_add(step) < POSITIVE_NUMBERS)
 }
 
-fn ranged(place: Place, part: Part, rest: &[u8]) -> Option<(Part, &[u8])>
+fn part_in_place(place: Place, part: Part, rest: &[u8]) -> Option<(Part, &[u8])>
     ensures { option_map (λ p. (p.0, p.1.now)) result
-        ≡ ranged place part.is_star part.first part.last part.step rest.now }
+        ≡ part_in_place place part.is_star part.first part.last part.step rest.now }
 {
     if is_within(place, part.first)
         && is_within(place, part.last)
@@ -207,11 +207,17 @@ fn ranged(place: Place, part: Part, rest: &[u8]) -> Option<(Part, &[u8])>
 }
 
 // A star or a range, so far of step 1, with the step after it.
-fn stepped(place: Place, is_star: bool, first: u64, last: u64, rest: &[u8]) -> Option<(Part, &[u8])>
-    ensures { option_map (λ p. (p.0, p.1.now)) result ≡ stepped place is_star first last rest.now }
+fn part_with_step(
+    place: Place,
+    is_star: bool,
+    first: u64,
+    last: u64,
+    rest: &[u8],
+) -> Option<(Part, &[u8])>
+    ensures { option_map (λ p. (p.0, p.1.now)) result ≡ part_with_step place is_star first last rest.now }
 {
     if !begins_with(rest, b'/') {
-        return ranged(
+        return part_in_place(
             place,
             Part {
                 is_star,
@@ -223,7 +229,7 @@ fn stepped(place: Place, is_star: bool, first: u64, last: u64, rest: &[u8]) -> O
         );
     }
     match value_at(Names::None, rest_of(rest)) {
-        Some((step, behind)) => ranged(
+        Some((step, after)) => part_in_place(
             place,
             Part {
                 is_star,
@@ -231,26 +237,26 @@ fn stepped(place: Place, is_star: bool, first: u64, last: u64, rest: &[u8]) -> O
                 last,
                 step,
             },
-            behind,
+            after,
         ),
         None => None,
     }
 }
 
 // What follows a value.
-fn from_value(place: Place, first: u64, rest: &[u8]) -> Option<(Part, &[u8])>
-    ensures { option_map (λ p. (p.0, p.1.now)) result ≡ from_value place first rest.now }
+fn part_from_value(place: Place, first: u64, rest: &[u8]) -> Option<(Part, &[u8])>
+    ensures { option_map (λ p. (p.0, p.1.now)) result ≡ part_from_value place first rest.now }
 {
     if begins_with(rest, b'-') {
         return match value_at(place.names, rest_of(rest)) {
-            Some((last, behind)) => stepped(place, false, first, last, behind),
+            Some((last, after)) => part_with_step(place, false, first, last, after),
             None => None,
         };
     }
     if begins_with(rest, b'/') {
         return None;
     }
-    ranged(
+    part_in_place(
         place,
         Part {
             is_star: false,
@@ -267,10 +273,10 @@ pub fn part_of(place: Place, text: &[u8]) -> Option<(Part, &[u8])>
     ensures { option_map (λ p. (p.0, p.1.now)) result ≡ part_of place text.now }
 {
     if begins_with(text, b'*') {
-        return stepped(place, true, place.first, place.last, rest_of(text));
+        return part_with_step(place, true, place.first, place.last, rest_of(text));
     }
     match value_at(place.names, text) {
-        Some((value, behind)) => from_value(place, value, behind),
+        Some((value, after)) => part_from_value(place, value, after),
         None => None,
     }
 }

@@ -2,13 +2,13 @@
 ghost use Rattle.std.specs.Prelude.{◌≡◌, ◌≤◌, ℕ, List, Bool, false, None, Some, length, option_map, string_bytes, IfOk};
 ghost use Rattle.std.specs.Str.{bytes_eq};
 ghost use Rattle.crontab.specs.declared.bytes.Kind.TheVariants as kinds;
-ghost use Rattle.crontab.specs.Bytes.{front, behind, until, rest_of};
-ghost use Rattle.crontab.specs.Line.{named, pattern_of_nickname, nickname_of, next, behind_fields, words_of, are_both, spaced, scheduled, texts_of, times_of, with_command, commanded, commanded_by, timed, nicknamed, fielded, entry_of_text, entry_of_pattern, job_of, is_system, are_patterns, entry_of};
+ghost use Rattle.crontab.specs.Bytes.{front, text_after, text_before, rest_of};
+ghost use Rattle.crontab.specs.Line.{named, pattern_of_nickname, nickname_of, next, text_after_fields, words_of, are_both, spaced_text, times_of_fields, texts_of, times_of, with_command, job_of_user, job_of_system, job_with_times, job_of_nickname, job_of_fields, entry_of_text, entry_of_pattern, job_of_line, is_system, are_patterns, entry_of};
 ghost use Rattle.crontab.specs.Line as Spec;
 ghost use Rattle.crontab.specs.Entries.{times_seen, words_seen, texts_read, read_seen, job_read, entry_seen, LiesIn};
 ghost use Rattle.crontab.specs.Place.{NamesPlace};
 
-use crate::bytes::{Kind, begins_with, cut, rest_of, trimmed, until};
+use crate::bytes::{Kind, begins_with, cut, rest_of, text_before, trim_end};
 use crate::field::{Names, Place};
 use crate::list::field_text;
 use crate::place::{Span, place_of};
@@ -201,8 +201,8 @@ pub fn word(text: &[u8]) -> (&[u8], &[u8])
     ensures word { result.0.now ≡ front kinds.Word text.now }
     ensures rest { result.1.now ≡ next text.now }
 {
-    let (word, behind) = cut(text, Kind::Word);
-    let (_, rest) = cut(behind, Kind::Blank);
+    let (word, after) = cut(text, Kind::Word);
+    let (_, rest) = cut(after, Kind::Blank);
     (word, rest)
 }
 
@@ -226,18 +226,18 @@ pub fn words_of(text: &[u8]) -> Words<'_>
 }
 
 // What directly follows the fifth word.
-fn behind_fields(text: &[u8]) -> &[u8]
-    ensures { result.now ≡ behind_fields text.now }
+fn text_after_fields(text: &[u8]) -> &[u8]
+    ensures { result.now ≡ text_after_fields text.now }
 {
     let (_, rest) = word(text);
     let (_, rest) = word(rest);
     let (_, rest) = word(rest);
     let (_, rest) = word(rest);
-    let (_, behind) = cut(rest, Kind::Word);
-    behind
+    let (_, after) = cut(rest, Kind::Word);
+    after
 }
 
-fn named(alloc: Global, text: &str) -> Result<Times, AllocError>
+fn times_of_text(alloc: Global, text: &str) -> Result<Times, AllocError>
     ensures { IfOk result (λ times. times_seen times ≡ named text.now false) }
 {
     let text = String::from_str(alloc, text)?;
@@ -256,7 +256,7 @@ fn nickname_of(alloc: Global, word: &[u8]) -> Result<Option<Times>, AllocError>
     }
     match text_of_nickname(word) {
         Some(text) => {
-            let times = named(alloc, text)?;
+            let times = times_of_text(alloc, text)?;
             Ok(Some(times))
         }
         None => Ok(None),
@@ -318,14 +318,14 @@ impl Drop for Texts {
 }
 
 // Five texts as one, both day fields given apart.
-fn spaced(
+fn times_with_days(
     alloc: Global,
     texts: &Texts,
     days: &str,
     weekdays: &str,
     both_days: bool,
 ) -> Result<Times, AllocError>
-    ensures { IfOk result (λ times. times_seen times ≡ named (spaced (string_bytes texts.now.minutes) (string_bytes texts.now.hours)
+    ensures { IfOk result (λ times. times_seen times ≡ named (spaced_text (string_bytes texts.now.minutes) (string_bytes texts.now.hours)
         days.now (string_bytes texts.now.months) weekdays.now) both_days) }
 {
     let (minutes, hours, months) = (&texts.minutes, &texts.hours, &texts.months);
@@ -334,8 +334,8 @@ fn spaced(
 }
 
 // The times of five fields.
-fn scheduled(alloc: Global, both: bool, texts: &Texts) -> Result<Times, AllocError>
-    ensures { IfOk result (λ times. times_seen times ≡ scheduled both (string_bytes texts.now.minutes) (string_bytes texts.now.hours)
+fn times_of_fields(alloc: Global, both: bool, texts: &Texts) -> Result<Times, AllocError>
+    ensures { IfOk result (λ times. times_seen times ≡ times_of_fields both (string_bytes texts.now.minutes) (string_bytes texts.now.hours)
         (string_bytes texts.now.days) (string_bytes texts.now.months) (string_bytes texts.now.weekdays)) }
 {
     if texts.minutes.is_empty() || texts.hours.is_empty() || texts.months.is_empty() {
@@ -345,15 +345,15 @@ fn scheduled(alloc: Global, both: bool, texts: &Texts) -> Result<Times, AllocErr
         if both || texts.weekdays.is_empty() {
             return Ok(Times::Never);
         }
-        return spaced(alloc, texts, "*", texts.weekdays.as_str(), both);
+        return times_with_days(alloc, texts, "*", texts.weekdays.as_str(), both);
     }
     if texts.weekdays.is_empty() {
         if both {
             return Ok(Times::Never);
         }
-        return spaced(alloc, texts, texts.days.as_str(), "*", both);
+        return times_with_days(alloc, texts, texts.days.as_str(), "*", both);
     }
-    spaced(
+    times_with_days(
         alloc,
         texts,
         texts.days.as_str(),
@@ -398,7 +398,7 @@ fn times_of(alloc: Global, words: Words<'_>) -> Result<Result<Times, Fault>, All
         Err(fault) => Ok(Err(fault)),
         Ok(_) if begins_with(words.rest, END_OF_FILE) => Ok(Err(Fault::Weekdays)),
         Ok(texts) => {
-            let times = scheduled(alloc, are_both(words), &texts)?;
+            let times = times_of_fields(alloc, are_both(words), &texts)?;
             Ok(Ok(times))
         }
     }
@@ -425,8 +425,8 @@ fn with_command<'l>(
 }
 
 // What follows the times in a crontab of a user.
-fn commanded<'l>(times: Times, schedule: &'l [u8], rest: &'l [u8]) -> Result<Job<'l>, Fault>
-    ensures { job_read result ≡ commanded (times_seen times) schedule.now rest.now }
+fn job_of_user<'l>(times: Times, schedule: &'l [u8], rest: &'l [u8]) -> Result<Job<'l>, Fault>
+    ensures { job_read result ≡ job_of_user (times_seen times) schedule.now rest.now }
 {
     if begins_with(rest, b'*') {
         return Err(Fault::Command);
@@ -435,73 +435,85 @@ fn commanded<'l>(times: Times, schedule: &'l [u8], rest: &'l [u8]) -> Result<Job
 }
 
 // What follows the times in a crontab of the system.
-fn commanded_by<'l>(times: Times, schedule: &'l [u8], rest: &'l [u8]) -> Result<Job<'l>, Fault>
-    ensures { job_read result ≡ commanded_by (times_seen times) schedule.now rest.now }
+fn job_of_system<'l>(times: Times, schedule: &'l [u8], rest: &'l [u8]) -> Result<Job<'l>, Fault>
+    ensures { job_read result ≡ job_of_system (times_seen times) schedule.now rest.now }
 {
-    let (user, behind) = cut(rest, Kind::Word);
-    if user.is_empty() || behind.is_empty() {
+    let (user, after) = cut(rest, Kind::Word);
+    if user.is_empty() || after.is_empty() {
         return Err(Fault::User);
     }
-    with_command(times, schedule, Some(user), rest_of(behind))
+    with_command(times, schedule, Some(user), rest_of(after))
 }
 
-fn timed<'l>(
+fn job_with_times<'l>(
     system: bool,
     times: Times,
     schedule: &'l [u8],
     rest: &'l [u8],
 ) -> Result<Job<'l>, Fault>
-    ensures { job_read result ≡ timed system (times_seen times) schedule.now rest.now }
+    ensures { job_read result ≡ job_with_times system (times_seen times) schedule.now rest.now }
 {
     if system {
-        commanded_by(times, schedule, rest)
+        job_of_system(times, schedule, rest)
     } else {
-        commanded(times, schedule, rest)
+        job_of_user(times, schedule, rest)
     }
 }
 
 // A line with a nickname.
-fn nicknamed(alloc: Global, system: bool, text: &[u8]) -> Result<Result<Job<'_>, Fault>, AllocError>
-    ensures { IfOk result (λ read. job_read read ≡ nicknamed system text.now (nickname_of (front kinds.Word (rest_of text.now)))) }
+fn job_of_nickname(
+    alloc: Global,
+    system: bool,
+    text: &[u8],
+) -> Result<Result<Job<'_>, Fault>, AllocError>
+    ensures { IfOk result (λ read. job_read read ≡ job_of_nickname system text.now (nickname_of (front kinds.Word (rest_of text.now)))) }
 {
     let (schedule, rest) = word(text);
     let (name, _) = cut(rest_of(text), Kind::Word);
     match nickname_of(alloc, name)? {
-        Some(times) => Ok(timed(system, times, schedule, rest)),
+        Some(times) => Ok(job_with_times(system, times, schedule, rest)),
         None => Ok(Err(Fault::Nickname)),
     }
 }
 
 // A line with five fields.
-fn fielded(alloc: Global, system: bool, text: &[u8]) -> Result<Result<Job<'_>, Fault>, AllocError>
-    ensures { IfOk result (λ read. job_read read ≡ fielded system text.now (times_of (words_of text.now))) }
+fn job_of_fields(
+    alloc: Global,
+    system: bool,
+    text: &[u8],
+) -> Result<Result<Job<'_>, Fault>, AllocError>
+    ensures { IfOk result (λ read. job_read read ≡ job_of_fields system text.now (times_of (words_of text.now))) }
 {
     let words = words_of(text);
     match times_of(alloc, words)? {
         Ok(times) => {
-            let schedule = until(text, behind_fields(text));
-            Ok(timed(system, times, schedule, words.rest))
+            let schedule = text_before(text, text_after_fields(text));
+            Ok(job_with_times(system, times, schedule, words.rest))
         }
         Err(fault) => Ok(Err(fault)),
     }
 }
 
 // The job of a line that is no setting.
-fn job_of(alloc: Global, system: bool, text: &[u8]) -> Result<Result<Job<'_>, Fault>, AllocError>
-    ensures { IfOk result (λ read. job_read read ≡ job_of system text.now) }
+fn job_of_line(
+    alloc: Global,
+    system: bool,
+    text: &[u8],
+) -> Result<Result<Job<'_>, Fault>, AllocError>
+    ensures { IfOk result (λ read. job_read read ≡ job_of_line system text.now) }
 {
     if begins_with(text, b'@') {
-        nicknamed(alloc, system, text)
+        job_of_nickname(alloc, system, text)
     } else {
-        fielded(alloc, system, text)
+        job_of_fields(alloc, system, text)
     }
 }
 
 // A refused line; `text` is that of the line from its first byte that is no blank.
-fn refused<'l>(line: &[u8], text: &[u8], system: bool, fault: Fault) -> Entry<'l>
+fn refused_entry<'l>(line: &[u8], text: &[u8], system: bool, fault: Fault) -> Entry<'l>
     ensures seen { entry_seen result ≡ Spec.refused fault }
     ensures placed { LiesIn (length line.now) result }
-    ensures exact { text.now ≡ behind kinds.Blank line.now → NamesPlace system line.now result }
+    ensures exact { text.now ≡ text_after kinds.Blank line.now → NamesPlace system line.now result }
 {
     let Span { start, end } = place_of(line, text, system, fault);
     Entry::Refused { fault, start, end }
@@ -516,19 +528,19 @@ fn entry_of_text<'l>(
 ) -> Result<Entry<'l>, AllocError>
     ensures seen { IfOk result (λ e. entry_seen e ≡ entry_of_text system text.now) }
     ensures placed { IfOk result (LiesIn (length line.now)) }
-    ensures exact { text.now ≡ behind kinds.Blank line.now → IfOk result (NamesPlace system line.now) }
+    ensures exact { text.now ≡ text_after kinds.Blank line.now → IfOk result (NamesPlace system line.now) }
 {
     if has(text, 0) {
-        return Ok(refused(line, text, system, Fault::Nul));
+        return Ok(refused_entry(line, text, system, Fault::Nul));
     }
     if is_setting(text) {
         return Ok(Entry::Setting {
             is_zone: sets_zone(text),
         });
     }
-    match job_of(alloc, system, text)? {
+    match job_of_line(alloc, system, text)? {
         Ok(job) => Ok(Entry::Job(job)),
-        Err(fault) => Ok(refused(line, text, system, fault)),
+        Err(fault) => Ok(refused_entry(line, text, system, fault)),
     }
 }
 
@@ -538,7 +550,7 @@ fn entry_of_pattern(text: &[u8]) -> Entry<'_>
     ensures placed { (n : ℕ) → LiesIn n result }
     ensures exact { (system : Bool) → (line : List ℕ) → NamesPlace system line result }
 {
-    let pattern = trimmed(text);
+    let pattern = trim_end(text);
     if pattern.is_empty() {
         Entry::Blank
     } else {

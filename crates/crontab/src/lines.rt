@@ -1,6 +1,6 @@
 //! The lines of a file.
 ghost use Rattle.std.specs.Prelude.{◌≡◌, OnOk};
-ghost use Rattle.crontab.specs.Lines.{ReadsLine, unfed, is_fed};
+ghost use Rattle.crontab.specs.Lines.{ReadsLine, without_line_feed, is_fed};
 
 use std::io;
 use std::io::BufRead;
@@ -17,8 +17,8 @@ pub fn read_line<R: BufRead>(reader: &mut R, line: &mut Vec<u8>) -> io::Result<(
 }
 
 /// A line without its line feed, and whether it has one.
-pub fn unfed(line: &[u8]) -> (&[u8], bool)
-    ensures text { result.0.now ≡ unfed line.now }
+pub fn without_line_feed(line: &[u8]) -> (&[u8], bool)
+    ensures text { result.0.now ≡ without_line_feed line.now }
     ensures fed { result.1 ≡ is_fed line.now }
 {
     let last = line.len().saturating_sub(1);

@@ -4,7 +4,7 @@ ghost use Rattle.std.specs.Prelude.{◌≡◌, ◌≤◌, ◌||◌, not, length,
 ghost use Rattle.std.specs.Option.{is_some, is_none};
 ghost use Rattle.std.specs.List.{list_all, list_any, prefix_len};
 ghost use Rattle.crontab.specs.declared.bytes.Kind.TheVariants as kinds;
-ghost use Rattle.crontab.specs.Bytes.{is_digit, front, behind, rest_of};
+ghost use Rattle.crontab.specs.Bytes.{is_digit, front, text_after, rest_of};
 ghost use Rattle.crontab.specs.Entries.{words_seen};
 ghost use Rattle.crontab.specs.Field.{name_of, part_of};
 ghost use Rattle.crontab.specs.Line.{nickname_of};
@@ -110,7 +110,7 @@ fn is_followed(place: Place, piece: &[u8]) -> bool
     ensures { result ≡ is_followed (part_of place piece.now) }
 {
     match part_of(place, piece) {
-        Some((_, behind)) => !behind.is_empty(),
+        Some((_, after)) => !after.is_empty(),
         None => false,
     }
 }
@@ -139,8 +139,8 @@ fn is_numbered(word: &[u8], letters: &str) -> bool
     ensures { result ≡ is_numbered (lowered letters.now) word.now }
 {
     let count = digit_count(word);
-    let (_, behind) = word.split_at(count);
-    0 < count && is_name(behind, letters)
+    let (_, after) = word.split_at(count);
+    0 < count && is_name(after, letters)
 }
 
 // Whether a word is a weekday's name and an L.
@@ -150,12 +150,12 @@ fn is_named_last(word: &[u8]) -> bool
     if word.len() < NAME_LENGTH {
         return false;
     }
-    let (name, behind) = word.split_at(NAME_LENGTH);
-    is_name(behind, "l") && name_of(Names::Weekdays, name).is_some()
+    let (name, after) = word.split_at(NAME_LENGTH);
+    is_name(after, "l") && name_of(Names::Weekdays, name).is_some()
 }
 
 fn is_named_step(piece: &[u8]) -> bool
-    ensures { result ≡ is_named (front kinds.Alphanumeric (rest_of (behind (kinds.But 47) piece.now))) }
+    ensures { result ≡ is_named (front kinds.Alphanumeric (rest_of (text_after (kinds.But 47) piece.now))) }
 {
     let (_, slash) = cut(piece, Kind::But(b'/'));
     let (step, _) = cut(rest_of(slash), Kind::Alphanumeric);
@@ -429,8 +429,8 @@ fn has_seconds(alloc: Global, text: &[u8]) -> Result<bool, AllocError>
 {
     let (first, rest) = word(text);
     let is_first = takes(alloc, MINUTES, first)?;
-    let are_behind = takes_all(alloc, words_of(rest))?;
-    Ok(is_first && are_behind)
+    let are_after = takes_all(alloc, words_of(rest))?;
+    Ok(is_first && are_after)
 }
 
 /// Whether a word is a nickname, in capitals or small.

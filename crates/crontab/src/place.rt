@@ -1,9 +1,9 @@
 //! The place of a fault in its line.
 ghost use Rattle.std.specs.Prelude.{◌≡◌, ◌≤◌, ◌+◌, [], length};
 ghost use Rattle.crontab.specs.declared.bytes.Kind.TheVariants as kinds;
-ghost use Rattle.crontab.specs.Bytes.{behind, rest_of};
+ghost use Rattle.crontab.specs.Bytes.{text_after, rest_of};
 ghost use Rattle.crontab.specs.Line.{next};
-ghost use Rattle.crontab.specs.Place.{behind_times, command_of, place_in, from_refused, behind_refused, IsBetween, IsPlaceOf};
+ghost use Rattle.crontab.specs.Place.{text_after_times, command_of, place_in, text_from_refused, text_after_refused, IsBetween, IsPlaceOf};
 
 use crate::bytes::{Kind, begins_with, cut, rest_of};
 use crate::field::Place;
@@ -18,40 +18,40 @@ pub struct Span {
     pub end: usize,
 }
 
-// The bytes of a line from where `text` begins to where `behind` does; both reach to the line's end.
-fn between(line: &[u8], text: &[u8], behind: &[u8]) -> Span
-    requires { length behind.now ≤ length text.now }
-    ensures place { IsBetween line.now text.now behind.now result.start result.end }
+// The bytes of a line from where `text` begins to where `after` does; both reach to the line's end.
+fn span_between(line: &[u8], text: &[u8], after: &[u8]) -> Span
+    requires { length after.now ≤ length text.now }
+    ensures place { IsBetween line.now text.now after.now result.start result.end }
     ensures order { result.start ≤ result.end }
     ensures within { result.end ≤ length line.now }
 {
     Span {
         start: line.len().saturating_sub(text.len()),
-        end: line.len().saturating_sub(behind.len()),
+        end: line.len().saturating_sub(after.len()),
     }
 }
 
 // The word that a text begins with.
 fn word_at(line: &[u8], text: &[u8]) -> Span
-    ensures place { IsBetween line.now text.now (behind kinds.Word text.now) result.start result.end }
+    ensures place { IsBetween line.now text.now (text_after kinds.Word text.now) result.start result.end }
     ensures order { result.start ≤ result.end }
     ensures within { result.end ≤ length line.now }
 {
-    let (_, behind) = cut(text, Kind::Word);
-    between(line, text, behind)
+    let (_, after) = cut(text, Kind::Word);
+    span_between(line, text, after)
 }
 
 // The part for which cron refuses the field that a text begins with; the whole of a field that cron takes.
 fn part_at(line: &[u8], text: &[u8], place: Place) -> Span
-    ensures place { IsBetween line.now (from_refused place text.now) (behind_refused place text.now) result.start result.end }
+    ensures place { IsBetween line.now (text_from_refused place text.now) (text_after_refused place text.now) result.start result.end }
     ensures order { result.start ≤ result.end }
     ensures within { result.end ≤ length line.now }
 {
     let (field, _) = cut(text, Kind::Word);
     let (start, end) = place_in(place, field);
     let (_, from) = text.split_at(start);
-    let (_, behind) = text.split_at(end);
-    between(line, from, behind)
+    let (_, after) = text.split_at(end);
+    span_between(line, from, after)
 }
 
 // The place in a field of the part for which cron refuses it, or of the whole.
@@ -75,20 +75,20 @@ fn next(text: &[u8]) -> &[u8]
 }
 
 // What follows four words and the blanks after them.
-fn behind_four(text: &[u8]) -> &[u8]
+fn text_after_four_words(text: &[u8]) -> &[u8]
     ensures { result.now ≡ next (next (next (next text.now))) }
 {
     next(next(next(next(text))))
 }
 
 // What follows the times.
-fn behind_times(text: &[u8]) -> &[u8]
-    ensures { result.now ≡ behind_times text.now }
+fn text_after_times(text: &[u8]) -> &[u8]
+    ensures { result.now ≡ text_after_times text.now }
 {
     if begins_with(text, b'@') {
         next(text)
     } else {
-        next(behind_four(text))
+        next(text_after_four_words(text))
     }
 }
 
@@ -99,20 +99,20 @@ fn command_at(line: &[u8], system: bool, rest: &[u8]) -> Span
     ensures within { result.end ≤ length line.now }
 {
     if system {
-        let (_, behind) = cut(rest, Kind::Word);
-        return between(line, rest_of(behind), &[]);
+        let (_, after) = cut(rest, Kind::Word);
+        return span_between(line, rest_of(after), &[]);
     }
-    between(line, rest, &[])
+    span_between(line, rest, &[])
 }
 
 // The first byte 0.
 fn nul_at(line: &[u8], text: &[u8]) -> Span
-    ensures place { IsBetween line.now (behind (kinds.But 0) text.now) (rest_of (behind (kinds.But 0) text.now)) result.start result.end }
+    ensures place { IsBetween line.now (text_after (kinds.But 0) text.now) (rest_of (text_after (kinds.But 0) text.now)) result.start result.end }
     ensures order { result.start ≤ result.end }
     ensures within { result.end ≤ length line.now }
 {
     let (_, from) = cut(text, Kind::But(0));
-    between(line, from, rest_of(from))
+    span_between(line, from, rest_of(from))
 }
 
 /// The place of a fault in a line of a crontab of the system or of a user; `text` is the line from its first byte that is
@@ -131,8 +131,8 @@ pub fn place_of(line: &[u8], text: &[u8], system: bool, fault: Fault) -> Span
         Fault::Hours => part_at(line, next(text), HOURS),
         Fault::Days => part_at(line, next(next(text)), DAYS),
         Fault::Months => part_at(line, next(next(next(text))), MONTHS),
-        Fault::Weekdays => part_at(line, behind_four(text), WEEKDAYS),
-        Fault::User => word_at(line, behind_times(text)),
-        Fault::Command | Fault::LongCommand => command_at(line, system, behind_times(text)),
+        Fault::Weekdays => part_at(line, text_after_four_words(text), WEEKDAYS),
+        Fault::User => word_at(line, text_after_times(text)),
+        Fault::Command | Fault::LongCommand => command_at(line, system, text_after_times(text)),
     }
 }

@@ -2,7 +2,7 @@
 ghost use Rattle.std.specs.Prelude.{◌≡◌, ◌==◌, ◌≤◌, length, take, option_map};
 ghost use Rattle.std.specs.List.{list_any, slice_split};
 ghost use Rattle.crontab.specs.Bytes.{is_blank, begins_with};
-ghost use Rattle.crontab.specs.Setting.{setting_length, has, behind_quoted, behind_name, is_value, is_assigned, is_setting, name_of, sets_zone, value_behind, value_of, is_quoted, unquoted, begins_home, has_home, has_comment, is_to_expand, is_not_expanded};
+ghost use Rattle.crontab.specs.Setting.{setting_length, has, text_after_quoted, text_after_name, is_value, is_assigned, is_setting, name_of, sets_zone, value_text, value_of, is_quoted, without_quote, begins_home, has_home, has_comment, is_to_expand, is_not_expanded};
 
 use crate::bytes::{Kind, begins_with, cut, is_blank, is_quote, rest_of};
 
@@ -13,7 +13,7 @@ const SETTING_LENGTH: usize = 998;
 pub fn is_setting(text: &[u8]) -> bool
     ensures { result ≡ is_setting text.now }
 {
-    is_assigned(behind_name(start_of(text)))
+    is_assigned(text_after_name(start_of(text)))
 }
 
 /// Whether a setting's variable is `CRON_TZ` or `TZ`.
@@ -57,34 +57,34 @@ fn start_of(text: &[u8]) -> &[u8]
 pub fn has(text: &[u8], byte: u8) -> bool
     ensures { result ≡ has byte text.now }
 {
-    let (_, behind) = cut(text, Kind::But(byte));
-    0 < behind.len()
+    let (_, after) = cut(text, Kind::But(byte));
+    0 < after.len()
 }
 
 // What follows a name in quotes, given without the first quote.
-fn behind_quoted(text: &[u8], quote: u8) -> Option<&[u8]>
-    ensures { option_map (λ t. t.now) result ≡ behind_quoted quote text.now }
+fn text_after_quoted(text: &[u8], quote: u8) -> Option<&[u8]>
+    ensures { option_map (λ t. t.now) result ≡ text_after_quoted quote text.now }
 {
-    let (name, behind) = cut(text, Kind::But(quote));
+    let (name, after) = cut(text, Kind::But(quote));
     if has(text, quote) && !has(name, b'=') {
-        Some(rest_of(behind))
+        Some(rest_of(after))
     } else {
         None
     }
 }
 
 // What follows the name.
-fn behind_name(text: &[u8]) -> Option<&[u8]>
-    ensures { option_map (λ t. t.now) result ≡ behind_name text.now }
+fn text_after_name(text: &[u8]) -> Option<&[u8]>
+    ensures { option_map (λ t. t.now) result ≡ text_after_name text.now }
 {
     match text {
         [] => None,
         [first, rest @ ..] => {
             if is_quote(*first) {
-                behind_quoted(rest, *first)
+                text_after_quoted(rest, *first)
             } else {
-                let (_, behind) = cut(text, Kind::Name);
-                Some(behind)
+                let (_, after) = cut(text, Kind::Name);
+                Some(after)
             }
         }
     }
@@ -97,8 +97,8 @@ fn is_value(text: &[u8]) -> bool
         [] => false,
         [first, rest @ ..] => {
             if is_quote(*first) {
-                let (_, behind) = cut(rest, Kind::But(*first));
-                let (_, more) = cut(rest_of(behind), Kind::Space);
+                let (_, after) = cut(rest, Kind::But(*first));
+                let (_, more) = cut(rest_of(after), Kind::Space);
                 has(rest, *first) && more.is_empty()
             } else {
                 true
@@ -107,10 +107,10 @@ fn is_value(text: &[u8]) -> bool
     }
 }
 
-fn is_assigned(behind: Option<&[u8]>) -> bool
-    ensures { result ≡ is_assigned (option_map (λ t. t.now) behind.entry) }
+fn is_assigned(after: Option<&[u8]>) -> bool
+    ensures { result ≡ is_assigned (option_map (λ t. t.now) after.entry) }
 {
-    match behind {
+    match after {
         None => false,
         Some(text) => {
             let (_, sign) = cut(text, Kind::Space);
@@ -121,10 +121,10 @@ fn is_assigned(behind: Option<&[u8]>) -> bool
 }
 
 // What follows the name, `=` and the spaces around it.
-fn value_behind(behind: Option<&[u8]>) -> &[u8]
-    ensures { result.now ≡ value_behind (option_map (λ t. t.now) behind.entry) }
+fn value_text(after: Option<&[u8]>) -> &[u8]
+    ensures { result.now ≡ value_text (option_map (λ t. t.now) after.entry) }
 {
-    match behind {
+    match after {
         None => "".as_bytes(),
         Some(text) => {
             let (_, sign) = cut(text, Kind::Space);
@@ -138,7 +138,7 @@ fn value_behind(behind: Option<&[u8]>) -> &[u8]
 fn value_of(text: &[u8]) -> &[u8]
     ensures { result.now ≡ value_of text.now }
 {
-    value_behind(behind_name(start_of(text)))
+    value_text(text_after_name(start_of(text)))
 }
 
 fn is_quoted(value: &[u8]) -> bool
@@ -151,8 +151,8 @@ fn is_quoted(value: &[u8]) -> bool
 }
 
 // A value without the quote in front of it.
-fn unquoted(value: &[u8]) -> &[u8]
-    ensures { result.now ≡ unquoted value.now }
+fn without_quote(value: &[u8]) -> &[u8]
+    ensures { result.now ≡ without_quote value.now }
 {
     if is_quoted(value) {
         rest_of(value)
@@ -194,7 +194,7 @@ fn has_comment(text: &[u8]) -> bool
 fn is_to_expand(value: &[u8]) -> bool
     ensures { result ≡ is_to_expand value.now }
 {
-    has(value, b'$') || has_home(unquoted(value)) || !is_quoted(value) && has_comment(value)
+    has(value, b'$') || has_home(without_quote(value)) || !is_quoted(value) && has_comment(value)
 }
 
 /// Whether a setting's value has a `$`, a `~/` at its beginning or after a colon, or a blank and `#` outside quotes.

@@ -28,15 +28,15 @@ minute_next w =
 pub due_late : (starred : Bool) (r m : ℤ) → (r +ℤ pos 1) ≤ℤ m → m ≤ℤ (r +ℤ pos most_late) → due_after starred r m ≡ r
 due_late starred r m low high = let t = between_test (pos 1) (pos most_late) (m -ℤ r) (omega (arith, ints)) (omega (arith, ints)) in rw t refl
 
-pub due_behind_starred : (r m : ℤ) → m ≤ℤ r → (r +ℤ pos 1) ≤ℤ (m +ℤ pos most_changed) → due_after true r m ≡ m -ℤ pos 1
-due_behind_starred r m low high =
+pub due_past_starred : (r m : ℤ) → m ≤ℤ r → (r +ℤ pos 1) ≤ℤ (m +ℤ pos most_changed) → due_after true r m ≡ m -ℤ pos 1
+due_past_starred r m low high =
     let a = between_false (pos 1) (pos most_late) (m -ℤ r) (λ h k. omega (arith, ints)) in
     let b = between_false (pos (most_late + 1)) (pos most_changed) (m -ℤ r) (λ h k. omega (arith, ints)) in
     let c = between_test (pos 1 -ℤ pos most_changed) (pos 0) (m -ℤ r) (omega (arith, ints)) (omega (arith, ints)) in
     rw (a, b, c) refl
 
-pub due_behind : (r m : ℤ) → m ≤ℤ r → (r +ℤ pos 1) ≤ℤ (m +ℤ pos most_changed) → due_after false r m ≡ m
-due_behind r m low high =
+pub due_past : (r m : ℤ) → m ≤ℤ r → (r +ℤ pos 1) ≤ℤ (m +ℤ pos most_changed) → due_after false r m ≡ m
+due_past r m low high =
     let a = between_false (pos 1) (pos most_late) (m -ℤ r) (λ h k. omega (arith, ints)) in
     let b = between_false (pos (most_late + 1)) (pos most_changed) (m -ℤ r) (λ h k. omega (arith, ints)) in
     let c = between_test (pos 1 -ℤ pos most_changed) (pos 0) (m -ℤ r) (omega (arith, ints)) (omega (arith, ints)) in
@@ -64,10 +64,10 @@ due_beyond starred r m back on =
     rw (a, b, d) refl
 
 pub due_again_starred : (starred : Bool) (r m : ℤ) → starred ≡ true → m ≤ℤ r → (r +ℤ pos 1) ≤ℤ (m +ℤ pos most_changed) → due_after starred r m ≡ m -ℤ pos 1
-due_again_starred starred r m is low high = rw is (due_behind_starred r m low high)
+due_again_starred starred r m is low high = rw is (due_past_starred r m low high)
 
 pub due_again_starless : (starred : Bool) (r m : ℤ) → starred ≡ false → m ≤ℤ r → (r +ℤ pos 1) ≤ℤ (m +ℤ pos most_changed) → due_after starred r m ≡ m
-due_again_starless starred r m is low high = rw is (due_behind r m low high)
+due_again_starless starred r m is low high = rw is (due_past r m low high)
 
 from_to : (first last d : ℤ) → is_from_to first last d ≡ true → (first ≤ℤ d) × (d ≤ℤ last)
 from_to first last d h = let both = both_parts (int_le first d) (int_le d last) h in (le_of first d both.0, le_of d last both.1)

@@ -137,7 +137,7 @@ in_place_of_two : MakesUpFrom half_hours_of_two (clock (pos 0) spring) (pos 7_20
 unfolding half_hours_of_two
 in_place_of_two =
     first_at_begin _ _ _ _ _ (stretch_is (pos 0) spring calm_tables.0 1 (omega arith)) half_hours_of_two (pos 7_200) (λ same. omega (arith, ints, same))
-    (record { begins = refl; behind = omega (arith, ints); ahead = omega (arith, ints); named = refl; first = λ j low named. omega (arith, ints, low) })
+    (record { begins = refl; later = omega (arith, ints); ahead = omega (arith, ints); named = refl; first = λ j low named. omega (arith, ints, low) })
 
 -- a starred one is left out there
 half_hours_of_each : CronJob

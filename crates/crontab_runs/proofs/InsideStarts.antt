@@ -9,7 +9,7 @@ use Rattle.croner_pattern.specs.Meaning.{Meaning}
 use Rattle.croner.specs.search.Limit.{IsWithin}
 use Rattle.crontab_runs.specs.Starts.{minute_of, cron_job, NamesMinute, StartsTimes, Starts}
 use Rattle.crontab_runs.specs.Private.Nearest.{NoneNamed, IsNearestNamed}
-use Rattle.crontab_runs.specs.Private.Parts.{least_minute, minute_from, IsBehind, NoStart, IsNearestStart}
+use Rattle.crontab_runs.specs.Private.Parts.{least_minute, minute_from, IsAfterBegin, NoStart, IsNearestStart}
 use Rattle.crontab_runs.specs.Private.Stretches.{IsStretch}
 use Rattle.crontab_runs.proofs.DueMinutes.{minute_bounds}
 use Rattle.crontab_runs.proofs.StretchStarts.{starts_inside, minute_start}
@@ -58,7 +58,7 @@ module _ (z : Zone) (begin end o before : ℤ) (s : IsStretch z begin end o befo
   start = minute_from direction (from +ℤ o) least
 
   -- a start is one of a minute that the search meets
-  start_met : (i : ℤ) → IsBehind direction begin end from i → Starts (cron_job meaning starred) z i
+  start_met : (i : ℤ) → IsAfterBegin direction begin end from i → Starts (cron_job meaning starred) z i
       → (m : ℤ) × (i +ℤ o ≡ m *ℤ pos 60) × (least ≤ℤ m) × Reaches direction start m × NamesMinute meaning m
   start_met i (low, high, on) starts =
       let (m, is) = starts_inside z begin end o before s (cron_job meaning starred) i low high starts in
@@ -66,16 +66,16 @@ module _ (z : Zone) (begin end o before : ℤ) (s : IsStretch z begin end o befo
       (m, is.shown, above, minute_met direction from o least i m is.shown on above, is.named)
 
   -- where no minute is named on, nothing is started
-  pub none_inside : NoneNamed direction meaning start → NoStart direction (cron_job meaning starred) z (IsBehind direction begin end from)
-  none_inside none = λ i behind within starts.
-      let (m, shown, above, on, named) = start_met i behind starts in
-      let same : z.reads i ≡ m *ℤ pos 60 = s.steady i (omega (arith, ints, behind.0)) behind.1 ∙ shown in
+  pub none_inside : NoneNamed direction meaning start → NoStart direction (cron_job meaning starred) z (IsAfterBegin direction begin end from)
+  none_inside none = λ i after within starts.
+      let (m, shown, above, on, named) = start_met i after starts in
+      let same : z.reads i ≡ m *ℤ pos 60 = s.steady i (omega (arith, ints, after.0)) after.1 ∙ shown in
       none m on (subst (IsWithin direction) same within) named
 
   module _ (k : ℤ) (near : IsNearestNamed direction meaning start k) where
     -- the nearest named minute is started where it begins, if that is in the stretch and after its first second
     pub nearest_inside : least ≤ℤ k → (k *ℤ pos 60 -ℤ o) <ℤ end
-        → IsNearestStart direction (cron_job meaning starred) z (IsBehind direction begin end from) (k *ℤ pos 60 -ℤ o)
+        → IsNearestStart direction (cron_job meaning starred) z (IsAfterBegin direction begin end from) (k *ℤ pos 60 -ℤ o)
         × StartsTimes (cron_job meaning starred) z (k *ℤ pos 60 -ℤ o) 1
     nearest_inside above high =
         let i : ℤ = k *ℤ pos 60 -ℤ o in
@@ -83,15 +83,15 @@ module _ (z : Zone) (begin end o before : ℤ) (s : IsStretch z begin end o befo
         let times = minute_start z begin end o before s (cron_job meaning starred) i k low high (record { shown = omega (arith, ints); named = near.counts.1; fresh = least_new begin o before starred k above }) in (
           record {
             counts = ((low, high, met_minute direction from o least k near.counts.0), (1, lit< tt, times));
-            nearest = λ j (behind, starts).
-                let (m, shown, over, on, named) = start_met j behind starts in
+            nearest = λ j (after, starts).
+                let (m, shown, over, on, named) = start_met j after starts in
                 instants_reach direction o k m j (near.nearest m (on, named)) shown;
           },
           times,
         )
 
     -- and else nothing is
-    pub nothing_inside : from <ℤ end → (k <ℤ least) ⊎ (end ≤ℤ (k *ℤ pos 60 -ℤ o)) → NoStart direction (cron_job meaning starred) z (IsBehind direction begin end from)
-    nothing_inside here out = λ i behind within starts.
-        let (m, shown, above, on, named) = start_met i behind starts in
-        out_of_stretch direction from o least end k m i near.counts.0 (near.nearest m (on, named)) shown above behind.1 here out
+    pub nothing_inside : from <ℤ end → (k <ℤ least) ⊎ (end ≤ℤ (k *ℤ pos 60 -ℤ o)) → NoStart direction (cron_job meaning starred) z (IsAfterBegin direction begin end from)
+    nothing_inside here out = λ i after within starts.
+        let (m, shown, above, on, named) = start_met i after starts in
+        out_of_stretch direction from o least end k m i near.counts.0 (near.nearest m (on, named)) shown above after.1 here out

@@ -14,8 +14,8 @@ use Rattle.crontab_runs.proofs.DueMinutes.{minute_bounds}
 use Rattle.crontab_runs.proofs.PartStarts.{named_bounds}
 
 -- no pattern names a minute beyond all years
-pub none_behind_all : (direction : Direction) (from : ℤ) (m : Meaning) → ((k : ℤ) → neg_ℤ (pos far_minutes) <ℤ k → k <ℤ pos far_minutes → Reaches direction from k → ⊥) → NoneNamed direction m from
-none_behind_all direction from m far = λ k on within named. let b = named_bounds m k named in far k (omega (arith, ints, b)) (omega (arith, ints, b)) on
+pub none_beyond_all : (direction : Direction) (from : ℤ) (m : Meaning) → ((k : ℤ) → neg_ℤ (pos far_minutes) <ℤ k → k <ℤ pos far_minutes → Reaches direction from k → ⊥) → NoneNamed direction m from
+none_beyond_all direction from m far = λ k on within named. let b = named_bounds m k named in far k (omega (arith, ints, b)) (omega (arith, ints, b)) on
 
 pub past_forward : (direction : Direction) → direction ≡ Forward → (k : ℤ) → neg_ℤ (pos far_minutes) <ℤ k → k <ℤ pos far_minutes → Reaches direction (pos far_minutes) k → ⊥
 past_forward direction e k low high on = let here : Reaches Forward (pos far_minutes) k = subst (λ (d : Direction). Reaches d (pos far_minutes) k) e on in omega (arith, ints, here, high)

@@ -63,7 +63,7 @@ module _ (z : Zone) (begin end o before : ℤ) (s : IsStretch z begin end o befo
       turns = λ same. other (sym here ∙ same ∙ ap minute_of s.last);
       before = minute_of before;
       greatest = greatest_at_begin z begin end o before s;
-      due = subst (λ (x : ℤ). due_after job.starred (minute_of before) x <ℤ minute_of w) (sym here) first.behind;
+      due = subst (λ (x : ℤ). due_after job.starred (minute_of before) x <ℤ minute_of w) (sym here) first.later;
       earlier = subst (λ (x : ℤ). minute_of w <ℤ x) (sym here) first.ahead;
       named = first.named;
     };

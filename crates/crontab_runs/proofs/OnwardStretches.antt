@@ -11,7 +11,7 @@ use Rattle.croner_pattern.specs.Meaning.{Meaning}
 use Rattle.crontab_runs.specs.declared.stretch.Stretch.{Stretch}
 use Rattle.crontab_runs.specs.Private.Known.{AreAllFrom}
 use Rattle.crontab_runs.specs.Private.Onward.{IsNextStretch, IsStretchBefore}
-use Rattle.crontab_runs.specs.Private.Parts.{least_behind}
+use Rattle.crontab_runs.specs.Private.Parts.{least_after_begin}
 use Rattle.crontab_runs.specs.Private.Stretches.{begin_of, end_of, IsStretch}
 use Rattle.crontab_runs.specs.Starts.{minute_of, is_from_to, due_after, most_late, most_changed, CronJob, cron_job, NamesMinute, Starts}
 use Rattle.crontab_runs.proofs.DueMinutes.{minute_bounds, minute_rises, due_near}
@@ -37,7 +37,7 @@ due_least starred r m =
 
 module _ (z : Zone) (begin end o before : ℤ) (s : IsStretch z begin end o before) (m : Meaning) (starred : Bool) (i : ℤ) where
   -- from the first second of a stretch on nothing is started for a minute before the least
-  started_from : begin ≤ℤ i → Starts (cron_job m starred) z i → (k : ℤ) × NamesMinute m k × (least_behind begin o before ≤ℤ k) × (k ≤ℤ minute_of (z.reads i))
+  started_from : begin ≤ℤ i → Starts (cron_job m starred) z i → (k : ℤ) × NamesMinute m k × (least_after_begin begin o before ≤ℤ k) × (k ≤ℤ minute_of (z.reads i))
   started_from low (n, some, (minutes, for, count)) =
       let (k, over, upto, named) = some_named (NamesMinute m) _ _ minutes for.due (omega (arith, some, count)) in
       let last : minute_of before ≤ℤ for.before = subst (λ (w : ℤ). minute_of w ≤ℤ for.before) s.last (for.greatest.greatest (begin -ℤ pos 1) (omega (arith, ints, low))) in
@@ -81,7 +81,7 @@ module _ (m : Meaning) (starred : Bool) (t : ClockTable) (direction : Direction)
   own_starts : (i : ℤ) → Starts (cron_job m starred) (table_zone t) i → Starts (cron_job m starred) (table_zone s.table.now) i
   own_starts i starts = subst (λ (x : ClockTable). Starts (cron_job m starred) (table_zone x) i) (sym on_table) starts
 
-  none_between : direction ≡ Forward → (c : ℕ) → from ≤ℤ least_behind s.begin s.offset s.before → begin_of t.changes.items c ≤ℤ (first *ℤ pos 60 -ℤ pos 86_400)
+  none_between : direction ≡ Forward → (c : ℕ) → from ≤ℤ least_after_begin s.begin s.offset s.before → begin_of t.changes.items c ≤ℤ (first *ℤ pos 60 -ℤ pos 86_400)
       → (i : ℤ) → begin_of t.changes.items n ≤ℤ i → i <ℤ begin_of t.changes.items c → Starts (cron_job m starred) (table_zone t) i → ⊥
   none_between forward c near begins i low high starts =
       let here : AreAllFrom Forward m from first = subst (λ (d : Direction). AreAllFrom d m from first) forward all in
@@ -91,7 +91,7 @@ module _ (m : Meaning) (starred : Bool) (t : ClockTable) (direction : Direction)
       let minute = minute_bounds ((table_zone s.table.now).reads i) in
       omega (arith, ints, over, upto, begins, high, reads, minute)
 
-  pub next_is : direction ≡ Forward → (c next : ℕ) → c ≤ length t.changes.items → (c ≤ n → next ≡ n) → (n ≤ c → next ≡ c) → from ≤ℤ least_behind s.begin s.offset s.before
+  pub next_is : direction ≡ Forward → (c next : ℕ) → c ≤ length t.changes.items → (c ≤ n → next ≡ n) → (n ≤ c → next ≡ c) → from ≤ℤ least_after_begin s.begin s.offset s.before
       → begin_of t.changes.items c ≤ℤ (first *ℤ pos 60 -ℤ pos 86_400) → IsNextStretch (cron_job m starred) t n next
   next_is forward c next within few more near begins = elim (nat_cases n c) [
     | inl lt ↦

@@ -17,7 +17,7 @@ use Rattle.crontab_runs.specs.declared.part.Part.{Part}
 use Rattle.crontab_runs.specs.declared.stretch.Stretch.{Stretch}
 use Rattle.crontab_runs.specs.Starts.{minute_of, NamesMinute, StartsTimes, Starts}
 use Rattle.crontab_runs.specs.Private.Due.{AreStarts}
-use Rattle.crontab_runs.specs.Private.Found.{job_in, zone_in, least_in, Behind, Within, NoneOf, IsFoundOf, NoneAtBegin, IsFoundAtBegin, NoneAtBeginWithin, IsFoundAtBeginWithin, IsNearestFrom}
+use Rattle.crontab_runs.specs.Private.Found.{job_in, zone_in, least_in, AfterBegin, Within, NoneOf, IsFoundOf, NoneAtBegin, IsFoundAtBegin, NoneAtBeginWithin, IsFoundAtBeginWithin, IsNearestFrom}
 use Rattle.crontab_runs.specs.Private.Nearest.{NoneNamed}
 use Rattle.crontab_runs.specs.Private.Parts.{least_minute, minute_from}
 use Rattle.crontab_runs.specs.Private.Stretches.{far}
@@ -109,22 +109,22 @@ module _ (p : Part) (k : ℤ) (near : IsNearestFrom p k) where
   pub second_fits : FitsSigned w64 (k *ℤ pos 60 -ℤ p.stretch.offset)
   second_fits = omega (arith, ints, found_bounds, p.stretch.fits.offset_low, p.stretch.fits.offset_high)
 
-  pub none_before_least : k <ℤ least_in p → NoneOf p (Behind p)
+  pub none_before_least : k <ℤ least_in p → NoneOf p (AfterBegin p)
   none_before_least h =
       nothing_inside (zone_in p) p.stretch.begin p.stretch.end p.stretch.offset p.stretch.before p.stretch.fits (job_of p.job.now.cron) p.job.now.is_starred p.direction p.from k near p.high (inl h)
 
-  pub none_past_end : p.stretch.end ≤ℤ (k *ℤ pos 60 -ℤ p.stretch.offset) → NoneOf p (Behind p)
+  pub none_past_end : p.stretch.end ≤ℤ (k *ℤ pos 60 -ℤ p.stretch.offset) → NoneOf p (AfterBegin p)
   none_past_end h =
       nothing_inside (zone_in p) p.stretch.begin p.stretch.end p.stretch.offset p.stretch.before p.stretch.fits (job_of p.job.now.cron) p.job.now.is_starred p.direction p.from k near p.high (inr h)
 
-  pub found_behind : least_in p ≤ℤ k → (k *ℤ pos 60 -ℤ p.stretch.offset) <ℤ p.stretch.end → IsFoundOf p (Behind p) (record { second = k *ℤ pos 60 -ℤ p.stretch.offset; count = 1 })
-  found_behind above high =
+  pub found_after_begin : least_in p ≤ℤ k → (k *ℤ pos 60 -ℤ p.stretch.offset) <ℤ p.stretch.end → IsFoundOf p (AfterBegin p) (record { second = k *ℤ pos 60 -ℤ p.stretch.offset; count = 1 })
+  found_after_begin above high =
       let found = nearest_inside (zone_in p) p.stretch.begin p.stretch.end p.stretch.offset p.stretch.before p.stretch.fits (job_of p.job.now.cron) p.job.now.is_starred p.direction p.from k near above high in
       (found.0, record { some = lit< tt; times = found.1 })
 
 -- where no minute is named
-pub none_behind : (p : Part) → NoneNamed p.direction (job_of p.job.now.cron) (minute_from p.direction (p.from +ℤ p.stretch.offset) (least_in p)) → NoneOf p (Behind p)
-none_behind p none =
+pub none_after_begin : (p : Part) → NoneNamed p.direction (job_of p.job.now.cron) (minute_from p.direction (p.from +ℤ p.stretch.offset) (least_in p)) → NoneOf p (AfterBegin p)
+none_after_begin p none =
     none_inside (zone_in p) p.stretch.begin p.stretch.end p.stretch.offset p.stretch.before p.stretch.fits (job_of p.job.now.cron) p.job.now.is_starred p.direction p.from none
 
 -- ---- the first second of the stretch
@@ -152,23 +152,23 @@ forward_reaches direction from begin e = subst (λ (d : Direction). (from ≤ℤ
 -- ---- both together
 
 module _ (p : Part) where
-  in_or_at : (i : ℤ) → Within p i → Behind p i ⊎ (i ≡ p.stretch.begin)
+  in_or_at : (i : ℤ) → Within p i → AfterBegin p i ⊎ (i ≡ p.stretch.begin)
   in_or_at i (low, high, on) = by_lt_z p.stretch.begin i (λ lt. inl (lt, high, on)) (λ le. inr (omega (arith, ints)))
 
-  behind_in : (i : ℤ) → Behind p i → Within p i
-  behind_in i (low, high, on) = (omega (arith, ints), high, on)
+  after_in : (i : ℤ) → AfterBegin p i → Within p i
+  after_in i (low, high, on) = (omega (arith, ints), high, on)
 
   at_in : Reaches p.direction p.from p.stretch.begin → Within p p.stretch.begin
   at_in on = (omega (arith, ints), p.stretch.fits.order, on)
 
   -- the first second is found
-  pub found_first : (s : Start) → ((j : ℤ) → Behind p j → Starts (job_in p) (zone_in p) j → Reaches p.direction p.stretch.begin j) → IsFoundAtBegin p s → IsFoundOf p (Within p) s
-  found_first s behind found =
+  pub found_first : (s : Start) → ((j : ℤ) → AfterBegin p j → Starts (job_in p) (zone_in p) j → Reaches p.direction p.stretch.begin j) → IsFoundAtBegin p s → IsFoundOf p (Within p) s
+  found_first s later found =
       let here : Starts (job_in p) (zone_in p) p.stretch.begin = (s.count, found.some, found.times) in (
         subst (λ (i : ℤ). NearestWhere p.direction (λ j. Within p j × Starts (job_in p) (zone_in p) j) i) (sym found.at) (record {
           counts = (at_in found.on, here);
           nearest = λ j (within, starts). elim (in_or_at j within) [
-            | inl after ↦ behind j after starts
+            | inl after ↦ later j after starts
             | inr same ↦ subst (Reaches p.direction p.stretch.begin) (sym same) (reaches-same p.direction p.stretch.begin)
           ];
         }),
@@ -177,10 +177,10 @@ module _ (p : Part) where
 
   -- another second is
   pub found_later : (s : Start) → (Starts (job_in p) (zone_in p) p.stretch.begin → Reaches p.direction p.from p.stretch.begin → Reaches p.direction s.second p.stretch.begin)
-      → IsFoundOf p (Behind p) s → IsFoundOf p (Within p) s
+      → IsFoundOf p (AfterBegin p) s → IsFoundOf p (Within p) s
   found_later s first (near, is) = (
     record {
-      counts = (behind_in s.second near.counts.0, near.counts.1);
+      counts = (after_in s.second near.counts.0, near.counts.1);
       nearest = λ j (within, starts). elim (in_or_at j within) [
         | inl after ↦ near.nearest j (after, starts)
         | inr same ↦ subst (Reaches p.direction s.second) (sym same) (first (subst (Starts (job_in p) (zone_in p)) same starts) (subst (Reaches p.direction p.from) same within.2))
@@ -190,9 +190,9 @@ module _ (p : Part) where
   )
 
   -- nothing is
-  pub none_found : NoneOf p (Behind p) → (IsWithin p.direction ((zone_in p).reads p.stretch.begin) → NoneAtBegin p) → NoneOf p (Within p)
-  none_found behind first = λ i within inside starts. elim (in_or_at i within) [
-    | inl after ↦ behind i after inside starts
+  pub none_found : NoneOf p (AfterBegin p) → (IsWithin p.direction ((zone_in p).reads p.stretch.begin) → NoneAtBegin p) → NoneOf p (Within p)
+  none_found later first = λ i within inside starts. elim (in_or_at i within) [
+    | inl after ↦ later i after inside starts
     | inr same ↦ first (subst (λ (j : ℤ). IsWithin p.direction ((zone_in p).reads j)) same inside) (subst (Reaches p.direction p.from) same within.2) (subst (Starts (job_in p) (zone_in p)) same starts)
   ]
 
@@ -201,27 +201,27 @@ module _ (p : Part) where
 
   -- forward the first second comes before what is after it
   pub first_forward : p.direction ≡ Forward → (s : Start) → IsFoundAtBegin p s → IsFoundOf p (Within p) s
-  first_forward e s found = found_first s (λ j behind starts. (forward_reaches p.direction p.stretch.begin j e).0 (omega (arith, ints, behind.0))) found
+  first_forward e s found = found_first s (λ j later starts. (forward_reaches p.direction p.stretch.begin j e).0 (omega (arith, ints, later.0))) found
 
-  pub later_forward : (r : Option Start) → NoneAtBegin p → MatchOption r (NoneOf p (Behind p)) (IsFoundOf p (Behind p)) → MatchOption r (NoneOf p (Within p)) (IsFoundOf p (Within p))
-  later_forward None first behind = none_found behind (λ _. first)
+  pub later_forward : (r : Option Start) → NoneAtBegin p → MatchOption r (NoneOf p (AfterBegin p)) (IsFoundOf p (AfterBegin p)) → MatchOption r (NoneOf p (Within p)) (IsFoundOf p (Within p))
+  later_forward None first later = none_found later (λ _. first)
   later_forward (Some s) first found = found_later s (λ starts on. absurd (first on starts)) found
 
   -- and backward after it
-  pub later_backward : p.direction ≡ Backward → (s : Start) → IsFoundOf p (Behind p) s → IsFoundOf p (Within p) s
+  pub later_backward : p.direction ≡ Backward → (s : Start) → IsFoundOf p (AfterBegin p) s → IsFoundOf p (Within p) s
   later_backward e s found = found_later s (λ _ _. backward_reaches p.direction s.second p.stretch.begin e (omega (arith, ints, found.0.counts.0.0))) found
 
-  all_within : p.direction ≡ Backward → (j : ℤ) → IsWithin p.direction (p.stretch.begin +ℤ p.stretch.offset) → Behind p j → IsWithin p.direction ((zone_in p).reads j)
-  all_within e j w behind =
-      let at = p.stretch.fits.steady j (omega (arith, ints, behind.0)) behind.1 in
+  all_within : p.direction ≡ Backward → (j : ℤ) → IsWithin p.direction (p.stretch.begin +ℤ p.stretch.offset) → AfterBegin p j → IsWithin p.direction ((zone_in p).reads j)
+  all_within e j w later =
+      let at = p.stretch.fits.steady j (omega (arith, ints, later.0)) later.1 in
       let from : IsWithin Backward (p.stretch.begin +ℤ p.stretch.offset) = subst (λ (d : Direction). IsWithin d (p.stretch.begin +ℤ p.stretch.offset)) e w in
-      let here : IsWithin Backward ((zone_in p).reads j) = omega (arith, ints, from, at, behind.0) in
+      let here : IsWithin Backward ((zone_in p).reads j) = omega (arith, ints, from, at, later.0) in
       subst (λ (d : Direction). IsWithin d ((zone_in p).reads j)) (sym e) here
 
-  pub first_backward : p.direction ≡ Backward → (r : Option Start) → NoneOf p (Behind p) → MatchOption r (NoneAtBeginWithin p) (IsFoundAtBeginWithin p)
+  pub first_backward : p.direction ≡ Backward → (r : Option Start) → NoneOf p (AfterBegin p) → MatchOption r (NoneAtBeginWithin p) (IsFoundAtBeginWithin p)
       → MatchOption r (NoneOf p (Within p)) (IsFoundOf p (Within p))
-  first_backward e None behind first = none_found behind (λ w. first (subst (IsWithin p.direction) reads_begin w))
-  first_backward e (Some s) behind found = found_first s (λ j after starts. absurd (behind j after (all_within e j found.0 after) starts)) found.1
+  first_backward e None later first = none_found later (λ w. first (subst (IsWithin p.direction) reads_begin w))
+  first_backward e (Some s) later found = found_first s (λ j after starts. absurd (later j after (all_within e j found.0 after) starts)) found.1
 
   pub within_answer : (r : Option Start) → IsWithin p.direction (p.stretch.begin +ℤ p.stretch.offset) → MatchOption r (NoneAtBegin p) (IsFoundAtBegin p)
       → MatchOption r (NoneAtBeginWithin p) (IsFoundAtBeginWithin p)

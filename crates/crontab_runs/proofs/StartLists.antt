@@ -34,14 +34,14 @@ left_before Forward runs s t i at on = (omega (arith, ints, at.0, on.0), on.1)
 left_before Backward runs s t i at on = (omega (arith, ints, at.0, on.0), on.1)
 
 -- it comes after that one
-comes_behind : (d : Direction) (runs : ℤ → Type 0) (t i : ℤ) → CountsFrom d runs (onward_from d t) i → Precedes d t i
-comes_behind Forward runs t i on = on.0
-comes_behind Backward runs t i on = omega (arith, ints, on.0)
+comes_after : (d : Direction) (runs : ℤ → Type 0) (t i : ℤ) → CountsFrom d runs (onward_from d t) i → Precedes d t i
+comes_after Forward runs t i on = on.0
+comes_after Backward runs t i on = omega (arith, ints, on.0)
 
 -- what comes no earlier than that one is it, or is left after it
-it_or_behind : (d : Direction) (runs : ℤ → Type 0) (t i : ℤ) → runs i → Reaches d t i → (t ≡ i) ⊎ CountsFrom d runs (onward_from d t) i
-it_or_behind Forward runs t i is reaches = by_lt_z t i (λ lt. inr (lt, is)) (λ le. inl (omega (arith, ints, le, reaches)))
-it_or_behind Backward runs t i is reaches = by_lt_z i t (λ lt. inr (omega (arith, ints, lt), is)) (λ le. inl (omega (arith, ints, le, reaches)))
+it_or_after : (d : Direction) (runs : ℤ → Type 0) (t i : ℤ) → runs i → Reaches d t i → (t ≡ i) ⊎ CountsFrom d runs (onward_from d t) i
+it_or_after Forward runs t i is reaches = by_lt_z t i (λ lt. inr (lt, is)) (λ le. inl (omega (arith, ints, le, reaches)))
+it_or_after Backward runs t i is reaches = by_lt_z i t (λ lt. inr (omega (arith, ints, lt), is)) (λ le. inl (omega (arith, ints, le, reaches)))
 
 run_of : (d : Direction) (runs : ℤ → Type 0) (s i : ℤ) → CountsFrom d runs s i → runs i
 run_of Forward runs s i on = on.1
@@ -49,8 +49,8 @@ run_of Backward runs s i on = on.1
 
 -- nothing comes after another one, and no later than it
 not_both : (d : Direction) (x i : ℤ) → Precedes d x i → Reaches d i x → ⊥
-not_both Forward x i behind by = omega (arith, ints, behind, by)
-not_both Backward x i behind by = omega (arith, ints, behind, by)
+not_both Forward x i later by = omega (arith, ints, later, by)
+not_both Backward x i later by = omega (arith, ints, later, by)
 
 -- ---- a listing and what is left after it
 
@@ -59,7 +59,7 @@ pub record Splits (d : Direction) (left rest : ℤ → Type 0) (items : List ℤ
   pub ordered : AllPairs (Precedes d) items
   pub counts : All left items
   pub either : (i : ℤ) → left i → Contains items i ⊎ rest i
-  pub behind : (i : ℤ) → rest i → All (λ x. Precedes d x i) items
+  pub later : (i : ℤ) → rest i → All (λ x. Precedes d x i) items
   pub within : (i : ℤ) → rest i → left i
 
 splits_none : (d : Direction) (left : ℤ → Type 0) → Splits d left left []
@@ -67,7 +67,7 @@ splits_none d left = record {
   ordered = λ k j e before within. absurd (omega (arith, within));
   counts = All-nil left;
   either = λ i is. inr is;
-  behind = λ i is. All-nil (λ x. Precedes d x i);
+  later = λ i is. All-nil (λ x. Precedes d x i);
   within = λ i is. is;
 }
 
@@ -78,17 +78,17 @@ splits_next : (d : Direction) (job : CronJob) (z : Zone) (left : ℤ → Type 0)
 splits_next d job z left s t items h near =
     let runs = Starts job z in
     record {
-      ordered = all_pairs_push (Precedes d) items t h.ordered (λ k e within. All-contains (λ x. Precedes d x t) items (get_or items k e) (h.behind t near.counts) (k, within, Prim.search rules));
+      ordered = all_pairs_push (Precedes d) items t h.ordered (λ k e within. All-contains (λ x. Precedes d x t) items (get_or items k e) (h.later t near.counts) (k, within, Prim.search rules));
       counts = All-push left items t h.counts (h.within t near.counts);
       either = λ i is.
           elim (h.either i is) [
             | inl had ↦ inl (Contains-append_left items (t ∷ []) i had)
-            | inr on ↦ elim (it_or_behind d runs t i (run_of d runs s i on) (near.nearest i on)) [
+            | inr on ↦ elim (it_or_after d runs t i (run_of d runs s i on) (near.nearest i on)) [
               | inl same ↦ inl (subst (Contains (items ++ t ∷ [])) same (Contains-push items t))
               | inr more ↦ inr more
             ]
           ];
-      behind = λ i is. All-push (λ x. Precedes d x i) items t (h.behind i (left_before d runs s t i near.counts is)) (comes_behind d runs t i is);
+      later = λ i is. All-push (λ x. Precedes d x i) items t (h.later i (left_before d runs s t i near.counts is)) (comes_after d runs t i is);
       within = λ i is. h.within i (left_before d runs s t i near.counts is);
     }
 
@@ -100,7 +100,7 @@ begins d left rest items h = record {
   complete = λ i last counts has reaches.
       elim (h.either i counts) [
         | inl had ↦ had
-        | inr on ↦ absurd (not_both d last i (All-contains (λ x. Precedes d x i) items last (h.behind i on) has) reaches)
+        | inr on ↦ absurd (not_both d last i (All-contains (λ x. Precedes d x i) items last (h.later i on) has) reaches)
       ];
 }
 

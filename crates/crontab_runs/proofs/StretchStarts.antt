@@ -6,15 +6,15 @@ use Rattle.croner.proofs.zone.Walks.{true_or_false}
 use Rattle.crontab_runs.specs.Starts.{minute_of, due_after, most_changed, CronJob, AreNamed, Turns, IsGreatestBefore, StartsFor, StartsTimes, Starts}
 use Rattle.crontab_runs.specs.Private.Stretches.{IsStretch}
 use Rattle.crontab_runs.specs.Private.Parts.{IsMinuteStart}
-use Rattle.crontab_runs.proofs.DueMinutes.{minute_bounds, minute_is, minute_rises, minute_next, due_late, due_behind, due_behind_starred}
+use Rattle.crontab_runs.proofs.DueMinutes.{minute_bounds, minute_is, minute_rises, minute_next, due_late, due_past, due_past_starred}
 use Rattle.crontab_runs.proofs.NamedMinutes.{one_named}
 
 -- there is one greatest minute
 pub one_greatest : (z : Zone) (i r s : ℤ) → IsGreatestBefore z i r → IsGreatestBefore z i s → r ≡ s
 one_greatest z i r s a b =
     let (j, before, at) = a.shown in
-    let (k, behind, is) = b.shown in
-    omega (arith, ints, a.greatest k behind, b.greatest j before, at, is)
+    let (k, past, is) = b.shown in
+    omega (arith, ints, a.greatest k past, b.greatest j before, at, is)
 
 -- a list that isn't empty has a named minute
 pub some_named : (names : ℤ → Type 0) (after upto : ℤ) (minutes : List ℤ) → AreNamed names after upto minutes → 0 < length minutes → (k : ℤ) × (after <ℤ k) × (k ≤ℤ upto) × names k
@@ -81,10 +81,10 @@ module _ (z : Zone) (begin end o before : ℤ) (s : IsStretch z begin end o befo
 
     -- after the greatest minute a starred job is due for the minute, and no other
     due_again : (starred : Bool) → m ≤ℤ minute_of before → starred ≡ true → due_after starred (minute_of before) m ≡ m -ℤ pos 1
-    due_again starred again is = subst (λ (b : Bool). due_after b (minute_of before) m ≡ m -ℤ pos 1) (sym is) (due_behind_starred (minute_of before) m again (near again))
+    due_again starred again is = subst (λ (b : Bool). due_after b (minute_of before) m ≡ m -ℤ pos 1) (sym is) (due_past_starred (minute_of before) m again (near again))
 
     due_waits : (starred : Bool) → m ≤ℤ minute_of before → starred ≡ false → due_after starred (minute_of before) m ≡ m
-    due_waits starred again is = subst (λ (b : Bool). due_after b (minute_of before) m ≡ m) (sym is) (due_behind (minute_of before) m again (near again))
+    due_waits starred again is = subst (λ (b : Bool). due_after b (minute_of before) m ≡ m) (sym is) (due_past (minute_of before) m again (near again))
 
     starts_alone : (job : CronJob) (r : ℤ) → job.names m → IsGreatestBefore z i r → due_after job.starred r m ≡ m -ℤ pos 1 → StartsTimes job z i 1
     starts_alone job r named greatest due = (

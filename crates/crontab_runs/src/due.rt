@@ -104,8 +104,8 @@ impl CrontabJob {
         ensures { IsTrue result → IsNamedCount (NamesMinute (job_of self.now.cron)) after upto 0 }
     {
         match known.direction {
-            Direction::Forward => known.onward(&self.cron, after + 1).first(&self.cron) > upto,
-            Direction::Backward => known.onward(&self.cron, upto).first(&self.cron) <= after,
+            Direction::Forward => known.known_from(&self.cron, after + 1).first(&self.cron) > upto,
+            Direction::Backward => known.known_from(&self.cron, upto).first(&self.cron) <= after,
         }
     }
 

@@ -68,7 +68,7 @@ impl<'j, 't> StartIterator<'j, 't> {
     }
 
     // The nearest start.
-    fn nearest(&self) -> Option<Start>
+    fn nearest_start(&self) -> Option<Start>
         ensures found { MatchOption result
             (NoStartLeft self.now.direction (cron_job_of self.now.job.now) (table_moment self.now.position))
             (IsStartFound self.now.direction (cron_job_of self.now.job.now) (table_moment self.now.position)) }
@@ -87,7 +87,7 @@ impl<'j, 't> Iterator for StartIterator<'j, 't> {
     ghost next_gives = { Steps };
 
     fn next(&mut self) -> Option<Start> {
-        match self.nearest() {
+        match self.nearest_start() {
             Some(start) => {
                 let second = onward_from(self.direction, start.second);
                 self.position = time_at(&self.position, second);

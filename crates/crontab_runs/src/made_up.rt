@@ -24,7 +24,7 @@ impl CrontabJob {
             (MakesUpFrom (cron_job_of self.now) (table_zone time.now.table.now) time.now.second) }
     {
         let (table, second) = (time.table(), time.second());
-        let stretch = Stretch::behind(table, changes_until(table, second));
+        let stretch = Stretch::after_changes(table, changes_until(table, second));
         if second == stretch.begin {
             self.first_at_begin(&stretch)
         } else {

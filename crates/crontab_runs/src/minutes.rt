@@ -133,7 +133,7 @@ impl NearestMinute {
     ghost use Rattle.crontab_runs.specs.Private.Known.{IsKnown, Serves, AreAllFrom, far_minutes};
 
     /// What is known before any search: no job names a minute beyond all years.
-    pub(crate) fn behind_all(direction: Direction) -> NearestMinute
+    pub(crate) fn before_any_search(direction: Direction) -> NearestMinute
         ensures direction { result.direction ≡ direction }
         ensures known { (m : Meaning) → IsKnown m result }
     {
@@ -174,7 +174,7 @@ impl NearestMinute {
     }
 
     /// What is known from another minute on.
-    pub(crate) fn onward(&self, cron: &Cron, from: i64) -> NearestMinute
+    pub(crate) fn known_from(&self, cron: &Cron, from: i64) -> NearestMinute
         requires { IsKnown (job_of cron.now) self.now }
         ensures direction { result.direction ≡ self.now.direction }
         ensures from { result.from ≡ from }

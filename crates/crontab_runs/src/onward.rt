@@ -28,7 +28,7 @@ impl CrontabJob {
         requires within { next ≤ length table.now.changes.items }
         ensures { IsNextStretch (cron_job_of self.now) table.now next result }
     {
-        if known.from > Stretch::behind(table, next).least_behind() {
+        if known.from > Stretch::after_changes(table, next).least_after_begin() {
             return next;
         }
         let minute = known.first(&self.cron);
@@ -48,7 +48,7 @@ impl CrontabJob {
         requires within { changes ≤ length table.now.changes.items }
         ensures { IsStretchBefore (cron_job_of self.now) table.now changes result }
     {
-        if known.from < minute_of(Stretch::behind(table, changes).before) {
+        if known.from < minute_of(Stretch::after_changes(table, changes).before) {
             return changes - 1;
         }
         let minute = known.first(&self.cron) + MOST_CHANGED;

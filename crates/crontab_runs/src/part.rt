@@ -21,7 +21,7 @@ pub(crate) struct Part<'p, 't> {
 }
 
 impl<'p, 't> Part<'p, 't> {
-    ghost use Rattle.crontab_runs.specs.Private.Found.{least_in, Behind, Within, NoneOf, IsFoundOf, NoneAtBegin, IsFoundAtBegin, NoneAtBeginWithin, IsFoundAtBeginWithin, IsNearestFrom, KnowsOf};
+    ghost use Rattle.crontab_runs.specs.Private.Found.{least_in, AfterBegin, Within, NoneOf, IsFoundOf, NoneAtBegin, IsFoundAtBegin, NoneAtBeginWithin, IsFoundAtBeginWithin, IsNearestFrom, KnowsOf};
     ghost use Rattle.crontab_runs.specs.Private.Parts.{least_minute, minute_from as first_minute};
 
     // The least minute that begins after the first second of the stretch, and for which the job may be started.
@@ -52,7 +52,7 @@ impl<'p, 't> Part<'p, 't> {
         match self.direction {
             Direction::Forward => {
                 if self.reaches_begin() {
-                    self.stretch.least_behind()
+                    self.stretch.least_after_begin()
                 } else {
                     self.minute_from()
                 }
@@ -62,9 +62,9 @@ impl<'p, 't> Part<'p, 't> {
     }
 
     // The nearest start after the first second of the stretch: there cron starts a job for one minute at a time.
-    fn behind_begin(&self, known: &NearestMinute) -> Option<Start>
+    fn start_after_begin(&self, known: &NearestMinute) -> Option<Start>
         requires { KnowsOf self.now known.now }
-        ensures { MatchOption result (NoneOf self.now (Behind self.now)) (IsFoundOf self.now (Behind self.now)) }
+        ensures { MatchOption result (NoneOf self.now (AfterBegin self.now)) (IsFoundOf self.now (AfterBegin self.now)) }
     {
         match known.nearest_from(&self.job.cron, self.minute_from()) {
             Some(minute) => self.start_for(minute),
@@ -75,7 +75,7 @@ impl<'p, 't> Part<'p, 't> {
     // The start for the nearest named minute, if it lies in the stretch.
     fn start_for(&self, minute: i64) -> Option<Start>
         requires { IsNearestFrom self.now minute }
-        ensures { MatchOption result (NoneOf self.now (Behind self.now)) (IsFoundOf self.now (Behind self.now)) }
+        ensures { MatchOption result (NoneOf self.now (AfterBegin self.now)) (IsFoundOf self.now (AfterBegin self.now)) }
     {
         let second = minute * SECONDS_PER_MINUTE - self.stretch.offset;
         if minute < self.least_minute() {
@@ -98,7 +98,7 @@ impl<'p, 't> Part<'p, 't> {
     }
 
     // The start at the first second of the stretch.
-    fn at_begin(&self, known: &NearestMinute) -> Option<Start>
+    fn start_at_begin(&self, known: &NearestMinute) -> Option<Start>
         requires { KnowsOf self.now known.now }
         ensures { MatchOption result (NoneAtBegin self.now) (IsFoundAtBegin self.now) }
     {
@@ -116,30 +116,30 @@ impl<'p, 't> Part<'p, 't> {
     }
 
     // The same where it lies in the searched years.
-    fn at_begin_within(&self, known: &NearestMinute) -> Option<Start>
+    fn start_at_begin_within(&self, known: &NearestMinute) -> Option<Start>
         requires { KnowsOf self.now known.now }
         ensures { MatchOption result (NoneAtBeginWithin self.now) (IsFoundAtBeginWithin self.now) }
     {
         if is_within(self.stretch.begin + self.stretch.offset, self.direction) {
-            self.at_begin(known)
+            self.start_at_begin(known)
         } else {
             None
         }
     }
 
     /// The nearest start in the stretch. `None` where none is left before year 5000 (forward) or after year 1 (backward).
-    pub(crate) fn nearest(&self, known: &NearestMinute) -> Option<Start>
+    pub(crate) fn nearest_start(&self, known: &NearestMinute) -> Option<Start>
         requires { KnowsOf self.now known.now }
         ensures { MatchOption result (NoneOf self.now (Within self.now)) (IsFoundOf self.now (Within self.now)) }
     {
         match self.direction {
-            Direction::Forward => match self.at_begin(known) {
+            Direction::Forward => match self.start_at_begin(known) {
                 Some(start) => Some(start),
-                None => self.behind_begin(known),
+                None => self.start_after_begin(known),
             },
-            Direction::Backward => match self.behind_begin(known) {
+            Direction::Backward => match self.start_after_begin(known) {
                 Some(start) => Some(start),
-                None => self.at_begin_within(known),
+                None => self.start_at_begin_within(known),
             },
         }
     }

@@ -69,8 +69,8 @@ impl CrontabJob {
             from: first_in(&stretch, from, direction),
             direction,
         };
-        let minutes = known.onward(&self.cron, part.first_minute());
-        match part.nearest(&minutes) {
+        let minutes = known.known_from(&self.cron, part.first_minute());
+        match part.nearest_start(&minutes) {
             Some(start) => Step::Found(start),
             None => {
                 if goes_on(&stretch, direction) {
@@ -102,11 +102,11 @@ impl CrontabJob {
         let table = after.table();
         let from = after.second() + 1;
         let mut changes = changes_until(table, from);
-        let mut known = NearestMinute::behind_all(Direction::Forward);
+        let mut known = NearestMinute::before_any_search(Direction::Forward);
         let end = table.changes().len() + 1;
         for _step in 0..end {
             match self.step(
-                Stretch::behind(table, changes),
+                Stretch::after_changes(table, changes),
                 from,
                 Direction::Forward,
                 &known,
@@ -140,10 +140,10 @@ impl CrontabJob {
         let from = until.second();
         let count = changes_until(table, from);
         let mut changes = count;
-        let mut known = NearestMinute::behind_all(Direction::Backward);
+        let mut known = NearestMinute::before_any_search(Direction::Backward);
         for _step in 0..count + 1 {
             match self.step(
-                Stretch::behind(table, changes),
+                Stretch::after_changes(table, changes),
                 from,
                 Direction::Backward,
                 &known,

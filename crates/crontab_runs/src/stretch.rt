@@ -2,8 +2,8 @@
 ghost use Rattle.std.specs.Prelude.{◌≡◌, ◌≤◌, ◌≤ℤ◌, ◌<ℤ◌, pos, neg_ℤ, length, int_le};
 ghost use Rattle.croner_base.specs.TableZone.{table_zone};
 ghost use Rattle.croner_base.specs.Private.TableSteps.{offset_past};
-ghost use Rattle.crontab_runs.specs.Private.Stretches.{far, begin_of as first_second, end_of as second_behind, offset_before as earlier_offset, IsStretch};
-ghost use Rattle.crontab_runs.specs.Private.Parts.{least_behind};
+ghost use Rattle.crontab_runs.specs.Private.Stretches.{far, begin_of as first_second, end_of as second_after, offset_before as earlier_offset, IsStretch};
+ghost use Rattle.crontab_runs.specs.Private.Parts.{least_after_begin};
 
 use crate::minutes::minute_of;
 use croner::time::table::ClockTable;
@@ -29,11 +29,11 @@ pub(crate) struct Stretch<'t> {
 impl<'t> Stretch<'t> {
     /// The stretch after so many changes.
 
-    pub(crate) fn behind(table: &'t ClockTable, changes: usize) -> Stretch<'t>
+    pub(crate) fn after_changes(table: &'t ClockTable, changes: usize) -> Stretch<'t>
         requires { changes ≤ length table.now.changes.items }
         ensures table { result.table.now ≡ table.now }
         ensures begin { result.begin ≡ first_second table.now.changes.items changes }
-        ensures end { result.end ≡ second_behind table.now.changes.items changes }
+        ensures end { result.end ≡ second_after table.now.changes.items changes }
     {
         let begin = begin_of(table, changes);
         let before = begin - 1 + offset_of(table, changes.saturating_sub(1));
@@ -47,8 +47,8 @@ impl<'t> Stretch<'t> {
     }
 
     /// The least minute for which anything can be started from its first second on.
-    pub(crate) fn least_behind(&self) -> i64
-        ensures { result ≡ least_behind self.now.begin self.now.offset self.now.before }
+    pub(crate) fn least_after_begin(&self) -> i64
+        ensures { result ≡ least_after_begin self.now.begin self.now.offset self.now.before }
     {
         minute_of(self.begin + self.offset).min(minute_of(self.before) + 1)
     }
@@ -69,7 +69,7 @@ fn begin_of(table: &ClockTable, changes: usize) -> i64
 // The second after its last.
 fn end_of(table: &ClockTable, changes: usize) -> i64
     requires { changes ≤ length table.now.changes.items }
-    ensures { result ≡ second_behind table.now.changes.items changes }
+    ensures { result ≡ second_after table.now.changes.items changes }
 {
     let all = table.changes();
     if changes < all.len() {
@@ -97,7 +97,7 @@ pub(crate) fn changes_until(table: &ClockTable, second: i64) -> usize
     requires high { second <ℤ pos far }
     ensures bound { result ≤ length table.now.changes.items }
     ensures begin { first_second table.now.changes.items result ≤ℤ second }
-    ensures end { second <ℤ second_behind table.now.changes.items result }
+    ensures end { second <ℤ second_after table.now.changes.items result }
 {
     table.changes().partition_point(
         |change: &(i64, i32)| -> bool

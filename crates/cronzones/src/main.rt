@@ -24,7 +24,7 @@ struct Zones<'r> {
 
 impl<'r> Tool for Zones<'r> {
     fn answer(&self, line: &Value) -> Result<Value, Fault> {
-        shown::or_refusal(self.rt.alloc(), answer(self.rt, line))
+        shown::answer_or_refusal(self.rt.alloc(), answer(self.rt, line))
     }
 
     fn is_wanted(&self, got: &Value, want: &Value) -> bool {

@@ -44,10 +44,10 @@ impl Asked {
         let subject = Subject::Job(&self.job);
         match self.kind {
             Kind::Search { inclusive } => {
-                found(alloc, subject.run_from(&start, inclusive, direction))
+                found_seconds(alloc, subject.run_from(&start, inclusive, direction))
             }
             Kind::Listing { count } => {
-                listed(
+                listed_seconds(
                     alloc,
                     &mut Runs::new(subject, start, How::From(direction))?,
                     count,
@@ -67,7 +67,10 @@ fn kind_of(value: &Value) -> Result<Kind, Fault> {
     }
 }
 
-fn found<T: Moment>(alloc: Global, run: Result<Run<T>, CronError>) -> Result<Vec<i64>, Fault> {
+fn found_seconds<T: Moment>(
+    alloc: Global,
+    run: Result<Run<T>, CronError>,
+) -> Result<Vec<i64>, Fault> {
     let mut runs = Vec::new(alloc);
     match run {
         Ok(run) => runs.push(run.instant.second())?,
@@ -78,7 +81,7 @@ fn found<T: Moment>(alloc: Global, run: Result<Run<T>, CronError>) -> Result<Vec
 }
 
 // Neither clock asks for memory, so an iterator over it ends at the limit alone.
-fn listed<T: Moment>(
+fn listed_seconds<T: Moment>(
     alloc: Global,
     listing: &mut Runs<'_, T>,
     count: i64,

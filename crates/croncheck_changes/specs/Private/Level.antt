@@ -20,7 +20,7 @@ IsNoneFrom m from = IsNoneWithin m from year_5000
 
 -- w is the first scheduled second from a wall second on
 pub record IsLeastFrom (m : Meaning) (from w : ℤ) : Type 0 where
-  pub behind : from ≤ℤ w
+  pub reached : from ≤ℤ w
   pub scheduled : IsScheduled m w
   pub least : (v : ℤ) → from ≤ℤ v → IsScheduled m v → w ≤ℤ v
 

@@ -8,7 +8,7 @@ abbrev pub is_watched : ℤ → ℤ → Bool
 is_watched start i =
     int_lt start i && (int_le i (start +ℤ pos watched_seconds) && (int_le first_watched i && int_lt i end_watched))
 
--- a change to an offset, behind another
+-- a change to an offset, after another
 abbrev pub change_of : ℤ → ℤ → ℤ → Change
 change_of offset instant next = record { instant = instant; before = instant +ℤ offset; after = instant +ℤ next }
 

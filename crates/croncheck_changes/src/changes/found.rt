@@ -1,4 +1,4 @@
-//! The changes of a clock behind a start.
+//! The changes of a clock after a start.
 ghost use Rattle.std.specs.Prelude.{◌≡◌, ◌↔◌, ◌++◌, ◌<ℤ◌, ◌≤ℤ◌, IsTrue, IfOk, OnOk};
 ghost use Rattle.croncheck_changes.specs.Changes.{AreChangesFrom, IsWatched, first_watched, end_watched};
 ghost use Rattle.croncheck_changes.specs.Private.Watched.{change_of, watched_at};
@@ -7,7 +7,7 @@ use crate::changes::Change;
 use croner::time::table::TableTime;
 use std::alloc::{AllocError, Global};
 
-/// How far behind a start changes are told: 372 days, since a change on a certain Sunday comes again after 364 or 371.
+/// How far after a start changes are told: 372 days, since a change on a certain Sunday comes again after 364 or 371.
 const WATCHED_SECONDS: i64 = 32_140_800;
 
 /// Changes are told from this second on: 0001-01-03T00:00:00 UTC.
@@ -16,8 +16,8 @@ const FIRST_WATCHED: i64 = -62_135_424_000;
 /// And before this one: 4999-12-30T00:00:00 UTC.
 const END_WATCHED: i64 = 95_617_411_200;
 
-/// The changes behind a start that are told: those of its clock's table that are watched.
-pub fn changes_behind(alloc: Global, start: TableTime<'_>) -> Result<Vec<Change>, AllocError>
+/// The changes after a start that are told: those of its clock's table that are watched.
+pub fn changes_after(alloc: Global, start: TableTime<'_>) -> Result<Vec<Change>, AllocError>
     ensures { IfOk result (λ changes. AreChangesFrom start.entry changes.items) }
 {
     let table = start.table();
@@ -32,7 +32,7 @@ pub fn changes_behind(alloc: Global, start: TableTime<'_>) -> Result<Vec<Change>
     Ok(changes)
 }
 
-// Puts a change behind the others, if it is told. Until its instant the clock is `offset` seconds ahead of UTC, and from it on `next`.
+// Puts a change after the others, if it is told. Until its instant the clock is `offset` seconds ahead of UTC, and from it on `next`.
 #[tactic(auto, using(crate::proofs::ListedChanges::one_watched))]
 fn push_watched(
     changes: &mut Vec<Change>,

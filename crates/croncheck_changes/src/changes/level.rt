@@ -37,7 +37,7 @@ impl Level {
     }
 
     // A wall second.
-    fn at(&self, wall: i64) -> TableTime<'_>
+    fn time_at(&self, wall: i64) -> TableTime<'_>
         requires { IsInReach wall }
         ensures second { result.second ≡ wall }
         ensures parts { HasParts (pos 0) [] result.table.now }
@@ -54,7 +54,7 @@ impl Level {
         requires { IsSearched from }
         ensures { MatchOption result (IsNoneFrom (job_of job.now) from) (IsLeastFrom (job_of job.now) from) }
     {
-        next_from(job, &self.at(from))
+        next_from(job, &self.time_at(from))
     }
 
     /// The first scheduled second from a wall second on, up to the one before another.
@@ -67,7 +67,7 @@ impl Level {
         if end <= from {
             return None;
         }
-        if_before(self.next_scheduled(job, from), end)
+        second_if_before(self.next_scheduled(job, from), end)
     }
 
     // Whether a second is scheduled from a wall second on, before another.
@@ -80,7 +80,7 @@ impl Level {
         self.scheduled_within(job, from, end).is_some()
     }
 
-    /// Whether a second is scheduled within three hours before a range of wall seconds, or within three hours behind it.
+    /// Whether a second is scheduled within three hours before a range of wall seconds, or within three hours after it.
     #[tactic(auto, using(crate::proofs::LevelClock::due_around))]
     pub fn is_due_around(&self, job: &Cron, first: i64, end: i64) -> bool
         requires { HasRoom first end }
@@ -112,7 +112,7 @@ fn second_found(answer: Result<TableTime<'_>, CronError>) -> Option<i64>
 }
 
 // A second, if it comes before another.
-fn if_before(second: Option<i64>, end: i64) -> Option<i64>
+fn second_if_before(second: Option<i64>, end: i64) -> Option<i64>
     ensures { result ≡ if_before second end }
 {
     match second {

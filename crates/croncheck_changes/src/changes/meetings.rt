@@ -17,11 +17,11 @@ const SECONDS_PER_HALF_DAY: u64 = 43_200;
 #[derive(Clone, Copy, Drop)]
 pub struct Met {
     pub meeting: Meeting,
-    /// The job is due beside the range too: within three hours before it, or within three hours behind it.
+    /// The job is due beside the range too: within three hours before it, or within three hours after it.
     pub is_due_beside: bool,
 }
 
-/// What a job is told of changes of the clock behind a start.
+/// What a job is told of changes of the clock after a start.
 #[derive(Clone, Copy, Drop)]
 pub struct Meetings {
     /// Of the first change that skips one of its seconds.

@@ -105,15 +105,15 @@ pub(super) fn program<'w>(alloc: Global) -> Result<Command<'w>, AllocError> {
         .args_conflicts_with_subcommands(true);
     let program = program.bin_name(NAME)?;
     let program = with_checking(alloc, program)?;
-    let program = with(program, check(alloc))?;
-    let program = with(program, show(alloc))?;
-    let program = with(program, plan(alloc))?;
-    let program = with(program, next(alloc))?;
-    with(program, describe(alloc))
+    let program = with_verb(program, check(alloc))?;
+    let program = with_verb(program, show(alloc))?;
+    let program = with_verb(program, plan(alloc))?;
+    let program = with_verb(program, next(alloc))?;
+    with_verb(program, describe(alloc))
 }
 
 // With one more verb. No other function lets a command go.
-fn with<'w>(
+fn with_verb<'w>(
     program: Command<'w>,
     verb: Result<Command<'w>, AllocError>,
 ) -> Result<Command<'w>, AllocError> {
@@ -356,7 +356,7 @@ fn with_kinds<'w>(alloc: Global, command: Command<'w>) -> Result<Command<'w>, Al
         ))
 }
 
-// An option that holds for the files behind it, so that each use of it has its place.
+// An option that holds for the files after it, so that each use of it has its place.
 fn kind<'w>(alloc: Global, id: &'w str) -> Arg<'w> {
     Arg::new(alloc, id)
         .long(id)

@@ -1,7 +1,7 @@
 //! What the words of a call ask of a plan, and the options for it.
 
 use super::options::{add, flag, value};
-use super::{NoCall, Verb, misused};
+use super::{NoCall, Verb, told_of_misuse};
 use clap::{Arg, ArgMatches, Command};
 use croncheck_planner::planner::{FileAsked, PlanAsked};
 use cronplan_forms::{Questions, Signs};
@@ -31,7 +31,7 @@ pub(super) fn plan_asked(
     let questions = Questions {
         week,
         quiet: length(alloc, matches, "quiet", "--quiet <LENGTH>")?,
-        busy: busy(alloc, matches)?,
+        busy: busy_count(alloc, matches)?,
         together: matches.get_flag("together"),
         month: matches.get_flag("month"),
     };
@@ -67,7 +67,7 @@ fn file_of_plan(alloc: Global, matches: &ArgMatches<'_>) -> Result<Option<FileAs
         return Ok(Some(FileAsked::Calendar(lasts)));
     }
     match output(matches) {
-        Some(name) => Err(misused(
+        Some(name) => Err(told_of_misuse(
             alloc,
             "--output <FILE>",
             name,
@@ -92,18 +92,23 @@ fn length(
     match matches.get_str(id) {
         Some(word) => match parse_unsigned_duration(word.as_bytes()) {
             Ok(length) => Ok(Some(length.as_secs())),
-            Err(_) => Err(misused(alloc, option, word, "write a length as 45m, 8h or 1h 30m")),
+            Err(_) => Err(told_of_misuse(
+                alloc,
+                option,
+                word,
+                "write a length as 45m, 8h or 1h 30m",
+            )),
         },
         None => Ok(None),
     }
 }
 
 // How many of the fullest moments are asked for.
-fn busy(alloc: Global, matches: &ArgMatches<'_>) -> Result<Option<usize>, NoCall> {
+fn busy_count(alloc: Global, matches: &ArgMatches<'_>) -> Result<Option<usize>, NoCall> {
     match matches.get_str("busy") {
         Some(word) => match word.parse::<usize>() {
             Ok(count) if 1 <= count && count <= MOST_MOMENTS => Ok(Some(count)),
-            _ => Err(misused(alloc, "--busy <N>", word, "write a number from 1 to 1000")),
+            _ => Err(told_of_misuse(alloc, "--busy <N>", word, "write a number from 1 to 1000")),
         },
         None => Ok(None),
     }
@@ -115,7 +120,7 @@ fn most_a_day(alloc: Global, matches: &ArgMatches<'_>) -> Result<Option<u64>, No
         Some(ALL) => Ok(None),
         Some(word) => match word.parse::<u64>() {
             Ok(most) => Ok(Some(most)),
-            Err(_) => Err(misused(
+            Err(_) => Err(told_of_misuse(
                 alloc,
                 "--most-a-day <N|all>",
                 word,
@@ -205,25 +210,27 @@ fn calendar<'w>(alloc: Global) -> Result<Arg<'w>, AllocError> {
     let arg = flag(alloc, "ics").help(
         "In place of the list: a calendar (RFC 5545), an event for each start, 2000 at most",
     );
-    alone(arg)
+    option_alone(arg)
 }
 
 fn page<'w>(alloc: Global) -> Result<Arg<'w>, AllocError> {
     let arg = flag(alloc, "html").help(
         "In place of the list: a page that shows all of this, one file without a script",
     );
-    alone(arg)?.conflicts_with("ics")
+    option_alone(arg)?.conflicts_with("ics")
 }
 
 fn json<'w>(alloc: Global) -> Result<Arg<'w>, AllocError> {
     let arg = flag(alloc, "json").help(
         "In place of the list: one object with the jobs, the moments, the quiet windows and the counts",
     );
-    alone(arg)?.conflicts_with("ics")?.conflicts_with("html")
+    option_alone(arg)?
+        .conflicts_with("ics")?
+        .conflicts_with("html")
 }
 
 // An option that stands with none of the answers that are texts.
-fn alone<'w>(arg: Arg<'w>) -> Result<Arg<'w>, AllocError> {
+fn option_alone<'w>(arg: Arg<'w>) -> Result<Arg<'w>, AllocError> {
     arg.conflicts_with("runs")?
         .conflicts_with("week")?
         .conflicts_with("month")?

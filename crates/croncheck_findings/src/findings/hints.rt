@@ -3,7 +3,7 @@
 //! Of the first part of the field that cron doesn't take, croner's parser says why it refuses it, as data; the words here say of that
 //! what holds for cron too. What another program's line may have been meant as is told first.
 
-use super::reasons::{reason_of, said_by_cron};
+use super::reasons::{reason_of, words_of_cron};
 use croncheck_output::front::{COMMAND_BYTES, push_front};
 use croner::parser::{
     CronParser, Expected, Hint, PatternFault, PatternField, Seconds, Suggestion, Year,
@@ -13,7 +13,7 @@ use crontab::line::Fault;
 use std::alloc::{AllocError, Global};
 use std::fmt;
 
-/// Puts why cron refuses a field behind a text: its own words, the part of the list that it doesn't take, what is wrong there, and what to
+/// Puts after a text why cron refuses a field: its own words, the part of the list that it doesn't take, what is wrong there, and what to
 /// write. Where nothing of this is known, it is which values the field takes.
 pub(super) fn push_hint(
     alloc: Global,
@@ -23,7 +23,7 @@ pub(super) fn push_hint(
     field: &[u8],
     part: &[u8],
 ) -> Result<(), AllocError> {
-    text.push_str(said_by_cron(fault))?;
+    text.push_str(words_of_cron(fault))?;
     if let Some(sign) = foreign_sign(field) {
         return push_sign(text, sign);
     }
@@ -39,7 +39,7 @@ pub(super) fn push_hint(
     text.push_str(values_of(fault))
 }
 
-// Puts which part of a list is at fault behind a text, where it is one of several.
+// Puts after a text which part of a list is at fault, where it is one of several.
 fn push_part(text: &mut String, field: &[u8], part: &[u8]) -> Result<(), AllocError> {
     if part.is_empty() || part.len() == field.len() {
         return Ok(());
@@ -50,7 +50,7 @@ fn push_part(text: &mut String, field: &[u8], part: &[u8]) -> Result<(), AllocEr
 
 // Which values a field takes.
 fn values_of(fault: Fault) -> &'static str {
-    match reason_of(fault).strip_prefix(said_by_cron(fault)) {
+    match reason_of(fault).strip_prefix(words_of_cron(fault)) {
         Some(values) => values,
         None => "",
     }
@@ -96,7 +96,7 @@ fn is_curly(sign: char) -> bool {
     matches!(sign, '\u{2018}'..='\u{201f}' | '\u{ab}' | '\u{bb}')
 }
 
-/// Puts what is said of such a sign behind a text.
+/// Puts after a text what is said of such a sign.
 pub(super) fn push_sign(text: &mut String, sign: char) -> Result<(), AllocError> {
     let code = u32::from(sign);
     if sign == '\u{feff}' {
@@ -155,11 +155,11 @@ pub(super) fn words_of_schedule(word: &[u8]) -> Option<&'static str> {
     None
 }
 
-// Whether a word is a name of a setting, behind which no `=` stands: capitals and underscores, two at least, and no month or weekday.
+// Whether a word is a name of a setting, after which no `=` stands: capitals and underscores, two at least, and no month or weekday.
 fn is_unset_name(line: &[u8], word: &[u8]) -> bool {
     let (_, content) = cut(line, Kind::Blank);
-    let (_, behind) = cut(content, Kind::Word);
-    let (_, next) = cut(behind, Kind::Blank);
+    let (_, after) = cut(content, Kind::Word);
+    let (_, next) = cut(after, Kind::Blank);
     3 < word.len() && is_name_of_setting(word) && is_value(next)
 }
 
@@ -208,8 +208,8 @@ fn is_hashed(part: &[u8]) -> bool {
 fn has_year(line: &[u8]) -> bool {
     let (_, mut rest) = cut(line, Kind::Blank);
     for _word in 0..5 {
-        let (_, behind) = cut(rest, Kind::Word);
-        let (_, next) = cut(behind, Kind::Blank);
+        let (_, after) = cut(rest, Kind::Word);
+        let (_, next) = cut(after, Kind::Blank);
         rest = next;
     }
     let (word, _) = cut(rest, Kind::Word);
@@ -272,7 +272,7 @@ fn pattern_of(alloc: Global, fault: Fault, part: &str) -> Result<String, AllocEr
     }
 }
 
-// Puts what was expected behind a text, where it says more than which values the field takes, and holds for cron.
+// Puts after a text what was expected, where it says more than which values the field takes, and holds for cron.
 fn push_expected(text: &mut String, expected: &Expected) -> Result<bool, AllocError> {
     match expected {
         Expected::RangeToStep { suggestion } => {
@@ -315,7 +315,7 @@ fn holds_for_cron(hint: Hint) -> bool {
     )
 }
 
-// What to write in place of a step behind a number; where nothing says the same, an example.
+// What to write in place of a step after a number; where nothing says the same, an example.
 #[derive(Clone, Copy)]
 struct Stepped {
     suggestion: Suggestion,
@@ -335,7 +335,7 @@ impl fmt::Display for Stepped {
 /// What a nickname that is none may have been meant as. Its words say what to write.
 #[derive(Clone, Copy)]
 pub(super) enum Meant {
-    /// A blank stands behind the `@`.
+    /// A blank stands after the `@`.
     NoName,
     Noon,
     /// `@every` so many minutes, which divide an hour.
@@ -360,7 +360,7 @@ impl fmt::Display for Meant {
     }
 }
 
-/// Puts what is to be written in place of a nickname that cron refuses behind a text, or answers that nothing is known of it.
+/// Puts after a text what is to be written in place of a nickname that cron refuses, or answers that nothing is known of it.
 pub(super) fn push_nickname_hint(
     text: &mut String,
     line: &[u8],
@@ -379,7 +379,7 @@ pub(super) fn push_nickname_hint(
     Ok(true)
 }
 
-/// What the name behind the `@` of a line may have been meant as, if that is known.
+/// What the name after the `@` of a line may have been meant as, if that is known.
 pub(super) fn meant_by(line: &[u8], name: &[u8]) -> Option<Meant> {
     if name.is_empty() {
         Some(Meant::NoName)
@@ -395,8 +395,8 @@ pub(super) fn meant_by(line: &[u8], name: &[u8]) -> Option<Meant> {
 // The second word of a line.
 fn second_word(line: &[u8]) -> &[u8] {
     let (_, content) = cut(line, Kind::Blank);
-    let (_, behind) = cut(content, Kind::Word);
-    let (_, rest) = cut(behind, Kind::Blank);
+    let (_, after) = cut(content, Kind::Word);
+    let (_, rest) = cut(after, Kind::Blank);
     let (word, _) = cut(rest, Kind::Word);
     word
 }

@@ -23,13 +23,13 @@ pub fn findings_of_file(
     ensures { IfOk result (λ found. findings_said found.items ≡ findings_of_file dialect lines (file_seen file.now)) }
 {
     if file.is_passed_over() {
-        return name_alone(alloc);
+        return findings_of_name(alloc);
     }
     findings_of_lines(alloc, dialect, lines, file)
 }
 
 // That cron passes over a file for its name.
-fn name_alone(alloc: Global) -> Result<Vec<Finding>, AllocError>
+fn findings_of_name(alloc: Global) -> Result<Vec<Finding>, AllocError>
     ensures { IfOk result (λ found. findings_said found.items ≡ file_name ∷ []) }
 {
     let mut found = Vec::new(alloc);

@@ -2,7 +2,7 @@
 ghost use Rattle.std.specs.Prelude.{◌≡◌, ◌||◌, ◌==◌, Some};
 ghost use Rattle.std.specs.List.{list_all};
 ghost use Rattle.crontab.specs.Line.{next};
-ghost use Rattle.croncheck_findings.specs.Findings.{content_extent, times_extent, has_seconds, from_field, is_of_seconds, from_place, word_extent, field_extent, is_plain, place_of};
+ghost use Rattle.croncheck_findings.specs.Findings.{content_extent, times_extent, has_seconds, text_from_field, is_of_seconds, text_from_place, word_extent, field_extent, is_plain, place_of};
 ghost use Rattle.croncheck_output.specs.Escaped.{is_printed};
 
 use super::Extent;
@@ -10,7 +10,7 @@ use croner::parser::PatternField;
 use crontab::bytes::{Kind, cut};
 use crontab::line::word;
 
-/// The place of a line behind its blanks.
+/// The place of a line after its blanks.
 pub(crate) fn content_extent(line: &[u8]) -> Extent
     ensures { result ≡ content_extent line.now }
 {
@@ -69,7 +69,7 @@ fn field_extent(line: &[u8], times: &[u8], field: PatternField) -> Extent
     ensures { result ≡ field_extent line.now times.now field }
 {
     let (_, content) = cut(line, Kind::Blank);
-    word_extent(line, from_place(has_seconds(times), field, content))
+    word_extent(line, text_from_place(has_seconds(times), field, content))
 }
 
 // The word with which the rest of a line begins.
@@ -84,7 +84,7 @@ fn word_extent(line: &[u8], rest: &[u8]) -> Extent
     }
 }
 
-// What stands behind the first word and the blanks after it.
+// What stands after the first word and the blanks after it.
 fn next(text: &[u8]) -> &[u8]
     ensures { result.now ≡ next text.now }
 {
@@ -114,19 +114,19 @@ fn is_of_seconds(field: PatternField) -> bool
 }
 
 // A text from a field on, where seconds may stand in front of the minutes.
-fn from_place(after_seconds: bool, field: PatternField, text: &[u8]) -> &[u8]
-    ensures { result.now ≡ from_place after_seconds field text.now }
+fn text_from_place(after_seconds: bool, field: PatternField, text: &[u8]) -> &[u8]
+    ensures { result.now ≡ text_from_place after_seconds field text.now }
 {
     if after_seconds && !is_of_seconds(field) {
-        from_field(field, next(text))
+        text_from_field(field, next(text))
     } else {
-        from_field(field, text)
+        text_from_field(field, text)
     }
 }
 
 // A text from a field on, where it begins with the minutes.
-fn from_field(field: PatternField, text: &[u8]) -> &[u8]
-    ensures { result.now ≡ from_field field text.now }
+fn text_from_field(field: PatternField, text: &[u8]) -> &[u8]
+    ensures { result.now ≡ text_from_field field text.now }
 {
     match field {
         PatternField::Seconds | PatternField::Minutes => text,

@@ -4,7 +4,7 @@ use super::hints::{push_hint, push_nickname_hint};
 use super::refused_pattern::push_pattern_reason;
 use croncheck_output::front::{COMMAND_BYTES, push_front};
 use croncheck_report::report::Why;
-use crontab::bytes::{Kind, begins_with, cut, is_quote, rest_of, trimmed};
+use crontab::bytes::{Kind, begins_with, cut, is_quote, rest_of, trim_end};
 use crontab::line::{Fault, WEEKDAYS, words_of};
 use crontab::notes::{is_nickname, takes};
 use crontab::setting::has;
@@ -14,7 +14,7 @@ use std::alloc::{AllocError, Global};
 const END_OF_FILE: u8 = 255;
 
 // The bytes of a line that are at fault.
-pub(super) fn at_fault(line: &[u8], start: usize, end: usize) -> &[u8] {
+pub(super) fn bytes_at_fault(line: &[u8], start: usize, end: usize) -> &[u8] {
     let (front, _) = line.split_at(end.min(line.len()));
     let (_, piece) = front.split_at(start.min(front.len()));
     piece
@@ -30,7 +30,7 @@ pub(super) fn push_why(
 ) -> Result<(), AllocError> {
     match why {
         Why::Cron(fault) => push_reason(alloc, text, *fault, line, piece),
-        Why::Behind(fault) => {
+        Why::AfterOpenLine(fault) => {
             push_reason(alloc, text, *fault, line, piece)?;
             text.push_str(
                 "; the line before ends in a backslash, but cron has no continued lines: write the command on one line",
@@ -80,7 +80,7 @@ fn push_field_reason(
     line: &[u8],
     part: &[u8],
 ) -> Result<(), AllocError> {
-    let said = said_by_cron(fault);
+    let said = words_of_cron(fault);
     let field = field_at_fault(line, fault);
     if field.is_empty() {
         let count = fields_before(fault);
@@ -160,21 +160,21 @@ fn fields_before(fault: Fault) -> u8 {
     }
 }
 
-// Whether a nickname's word is one but for a carriage return behind it.
+// Whether a nickname's word is one but for a carriage return after it.
 fn is_cut_nickname(piece: &[u8]) -> bool {
-    let name = trimmed(rest_of(piece));
+    let name = trim_end(rest_of(piece));
     name.len() < rest_of(piece).len() && is_nickname(name)
 }
 
 // Whether a text has nothing but carriage returns and other spaces.
 fn is_carriage_return(text: &[u8]) -> bool {
-    has(text, b'\r') && trimmed(text).is_empty()
+    has(text, b'\r') && trim_end(text).is_empty()
 }
 
-// What stands behind a name and a `=`, without the spaces in front of it.
+// What stands after a name and a `=`, without the spaces in front of it.
 fn value_of(text: &[u8]) -> Option<&[u8]> {
-    let (name, behind) = cut(text, Kind::Name);
-    let (_, sign) = cut(behind, Kind::Space);
+    let (name, after) = cut(text, Kind::Name);
+    let (_, sign) = cut(after, Kind::Space);
     if name.is_empty() || !begins_with(sign, b'=') {
         return None;
     }
@@ -183,7 +183,7 @@ fn value_of(text: &[u8]) -> Option<&[u8]> {
 }
 
 // What cron itself says of a field that it refuses.
-pub(super) fn said_by_cron(fault: Fault) -> &'static str {
+pub(super) fn words_of_cron(fault: Fault) -> &'static str {
     match fault {
         Fault::Hours => "bad hour",
         Fault::Days => "bad day-of-month",

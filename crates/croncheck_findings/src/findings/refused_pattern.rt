@@ -1,7 +1,7 @@
 //! Why croner's parser refuses a pattern, and what to write in its place where its own words don't say that.
 
 use super::hints::{Meant, foreign_sign, meant_by, push_sign, words_of_hashed, words_of_schedule};
-use super::reasons::at_fault;
+use super::reasons::bytes_at_fault;
 use croner::parser::PatternFault;
 use crontab::bytes::{Kind, begins_with, cut, rest_of};
 use std::alloc::AllocError;
@@ -11,7 +11,7 @@ const ENDS_OF_FIELD: &[u8] = b" \t";
 
 const ENDS_OF_PART: &[u8] = b" \t,";
 
-/// Puts why the parser refuses the pattern of a line behind a text, and behind it the hint that a crontab's line would have.
+/// Puts after a text why the parser refuses the pattern of a line, and after it the hint that a crontab's line would have.
 pub(super) fn push_pattern_reason(
     text: &mut String,
     line: &[u8],
@@ -34,7 +34,7 @@ pub(super) fn push_pattern_reason(
     }
 }
 
-// Puts what a nickname was meant as behind a text, where the parser's words don't say that.
+// Puts after a text what a nickname was meant as, where the parser's words don't say that.
 fn push_meant(text: &mut String, meant: Option<Meant>) -> Result<(), AllocError> {
     match meant {
         Some(Meant::Interval) | None => Ok(()),
@@ -52,17 +52,14 @@ fn words_of_another(pattern: &[u8], first: &[u8], at: usize) -> Option<&'static 
 
 // The bytes around a place of a text, between those that end a piece.
 fn piece_at<'p>(text: &'p [u8], at: usize, ends: &[u8]) -> &'p [u8] {
-    let (front, behind) = text.split_at(at.min(text.len()));
+    let (front, rest) = text.split_at(at.min(text.len()));
     let before = front
         .iter()
         .rev()
         .take_while(|byte| !ends.contains(*byte))
         .count();
-    let after = behind
-        .iter()
-        .take_while(|byte| !ends.contains(*byte))
-        .count();
-    at_fault(
+    let after = rest.iter().take_while(|byte| !ends.contains(*byte)).count();
+    bytes_at_fault(
         text,
         front.len().saturating_sub(before),
         front.len().saturating_add(after),

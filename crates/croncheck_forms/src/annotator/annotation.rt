@@ -1,12 +1,12 @@
 //! The annotation of a finding.
 ghost use Rattle.std.specs.Prelude.{◌≡◌, ◌++◌, true, false, codes, IfOk, OnOk, string_bytes};
-ghost use Rattle.croncheck_forms.specs.Annotations.{command_name, escaped, gcc_text, gcc_line, github_place, github_line, line_of};
+ghost use Rattle.croncheck_forms.specs.Annotations.{command_name, escaped_bytes, gcc_text, gcc_line, github_place, github_line, line_of};
 ghost use Rattle.croncheck_reading.specs.Tally.{one_more};
 
 use super::Style;
 use super::escapes::push_escaped;
 use croncheck_findings::findings::Finding;
-use croncheck_output::escaped::shown;
+use croncheck_output::escaped::shown_text;
 use croncheck_output::severity::Severity;
 use croncheck_reading::tally::one_more;
 use croncheck_report::place::Place;
@@ -33,7 +33,7 @@ fn gcc_line(alloc: Global, place: Place<'_>, finding: &Finding) -> Result<Vec<u8
     ensures { IfOk result (λ line. line.items ≡ gcc_line place.entry.file.now place.entry.line finding.now) }
 {
     let text = gcc_text(alloc, place, finding)?;
-    let mut line = shown(alloc, text.as_str().as_bytes())?;
+    let mut line = shown_text(alloc, text.as_str().as_bytes())?;
     line.push('\n')?;
     Ok(line.into_bytes())
 }
@@ -60,7 +60,7 @@ fn github_line(alloc: Global, place: Place<'_>, finding: &Finding) -> Result<Vec
 {
     let mut line = github_head(alloc, finding.severity)?.into_bytes();
     push_escaped(&mut line, place.file.as_bytes(), true)?;
-    push_behind_file(alloc, &mut line, place.line, finding)?;
+    push_after_file(alloc, &mut line, place.line, finding)?;
     Ok(line)
 }
 
@@ -81,15 +81,15 @@ fn command_name(severity: Severity) -> &'static str
     }
 }
 
-// What stands behind the name of the file.
-fn push_behind_file(
+// What stands after the name of the file.
+fn push_after_file(
     alloc: Global,
     line: &mut Vec<u8>,
     number: u64,
     finding: &Finding,
 ) -> Result<(), AllocError>
-    ensures { OnOk result (line.new.items ≡ line.old.items ++ (github_place number finding.now ++ (escaped true finding.now.name.now
-        ++ (codes "::" ++ (escaped false (string_bytes finding.now.text) ++ codes "\n"))))) }
+    ensures { OnOk result (line.new.items ≡ line.old.items ++ (github_place number finding.now ++ (escaped_bytes true finding.now.name.now
+        ++ (codes "::" ++ (escaped_bytes false (string_bytes finding.now.text) ++ codes "\n"))))) }
 {
     let place = github_place(alloc, number, finding)?;
     line.extend_from_slice(place.as_str().as_bytes())?;
@@ -105,7 +105,7 @@ fn github_place(alloc: Global, line: u64, finding: &Finding) -> Result<String, A
 }
 
 fn push_message(line: &mut Vec<u8>, finding: &Finding) -> Result<(), AllocError>
-    ensures { OnOk result (line.new.items ≡ line.old.items ++ (codes "::" ++ (escaped false (string_bytes finding.now.text) ++ codes "\n"))) }
+    ensures { OnOk result (line.new.items ≡ line.old.items ++ (codes "::" ++ (escaped_bytes false (string_bytes finding.now.text) ++ codes "\n"))) }
 {
     line.extend_from_slice("::".as_bytes())?;
     push_escaped(line, finding.text.as_str().as_bytes(), false)?;

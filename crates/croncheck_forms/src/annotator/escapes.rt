@@ -1,15 +1,15 @@
 //! The escapes of a command of a GitHub workflow.
 ghost use Rattle.std.specs.Prelude.{◌≡◌, ◌++◌, ◌<◌, length, option_map, IfOk, OnOk, IsTrue};
 ghost use Rattle.std.specs.List.{list_all};
-ghost use Rattle.croncheck_forms.specs.Annotations.{message_escape, property_escape, escape_of, escaped_byte, escaped, ends_nothing};
+ghost use Rattle.croncheck_forms.specs.Annotations.{message_escape, property_escape, escape_of, escaped_byte, escaped_bytes, ends_nothing};
 
 use std::alloc::{AllocError, Global};
 
 /// Bytes as they stand in the value of a property of a command, or else in its message.
 ///
 /// None of them ends the command's line; none in a property ends its value. The only error is want of memory.
-pub fn escaped(alloc: Global, bytes: &[u8], is_property: bool) -> Result<Vec<u8>, AllocError>
-    ensures value { IfOk result (λ text. text.items ≡ escaped is_property bytes.now) }
+pub fn escape(alloc: Global, bytes: &[u8], is_property: bool) -> Result<Vec<u8>, AllocError>
+    ensures value { IfOk result (λ text. text.items ≡ escaped_bytes is_property bytes.now) }
     ensures closed { IfOk result (λ text. IsTrue (list_all (ends_nothing is_property) text.items)) }
 {
     let mut text = Vec::new(alloc);
@@ -17,11 +17,11 @@ pub fn escaped(alloc: Global, bytes: &[u8], is_property: bool) -> Result<Vec<u8>
     Ok(text)
 }
 
-/// Puts bytes behind a line, as they stand in the value of a property, or else in the message.
+/// Puts bytes after a line, as they stand in the value of a property, or else in the message.
 ///
 /// None of them ends the command's line; none in a property ends its value. The only error is want of memory.
 pub fn push_escaped(line: &mut Vec<u8>, bytes: &[u8], is_property: bool) -> Result<(), AllocError>
-    ensures { OnOk result (line.new.items ≡ line.old.items ++ escaped is_property bytes.now) }
+    ensures { OnOk result (line.new.items ≡ line.old.items ++ escaped_bytes is_property bytes.now) }
 {
     let mut rest = bytes;
     while !rest.is_empty() {
@@ -30,7 +30,7 @@ pub fn push_escaped(line: &mut Vec<u8>, bytes: &[u8], is_property: bool) -> Resu
     Ok(())
 }
 
-// Puts the first of some bytes behind a line. Those behind it are left.
+// Puts the first of some bytes after a line. Those after it are left.
 #[tactic(auto, using(crate::proofs::Annotated::one_escaped))]
 fn push_first<'b>(
     line: &mut Vec<u8>,
@@ -38,7 +38,7 @@ fn push_first<'b>(
     is_property: bool,
 ) -> Result<&'b [u8], AllocError>
     requires { 0 < length bytes.now }
-    ensures put { IfOk result (λ rest. line.new.items ++ escaped is_property rest.now ≡ line.old.items ++ escaped is_property bytes.now) }
+    ensures put { IfOk result (λ rest. line.new.items ++ escaped_bytes is_property rest.now ≡ line.old.items ++ escaped_bytes is_property bytes.now) }
     ensures shorter { IfOk result (λ rest. length rest.now < length bytes.now) }
 {
     match bytes {

@@ -10,7 +10,7 @@ use std::str::from_utf8;
 #[derive(Clone, Copy, Drop)]
 pub struct Columns {
     pub start: u64,
-    /// The column behind the last character.
+    /// The column after the last character.
     pub end: u64,
 }
 
@@ -47,10 +47,10 @@ fn characters(n: usize, line: &[u8]) -> usize
     ensures { result ≡ characters n line.now }
 {
     let (front, _) = line.split_at(n.min(line.len()));
-    begun(front)
+    character_count(front)
 }
 
-fn begun(bytes: &[u8]) -> usize
+fn character_count(bytes: &[u8]) -> usize
     ensures { result ≡ length (filter (λ b. not (continues b)) bytes.now) }
 {
     bytes.iter().filter(|byte| !continues(**byte)).count()

@@ -25,7 +25,7 @@ fn push_uri(uri: &mut String, name: &[u8]) -> Result<(), AllocError>
     Ok(())
 }
 
-// Puts the first of some bytes behind a URI. Those behind it are left.
+// Puts the first of some bytes after a URI. Those after it are left.
 #[tactic(auto, using(crate::proofs::Sarifs::one_in_uri))]
 fn push_first<'b>(uri: &mut String, bytes: &'b [u8]) -> Result<&'b [u8], AllocError>
     requires { 0 < length bytes.now }

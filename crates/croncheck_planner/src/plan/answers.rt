@@ -1,17 +1,26 @@
 //! What a plan answers, as it is written.
-ghost use Rattle.std.specs.Prelude.{◌≡◌, List, IfOk, OnOk};
-ghost use Rattle.croncheck_output.specs.Output.{written_of};
-ghost use Rattle.croncheck_planner.specs.PlanAnswers.{WritesAnswers, IsViewOf, job_planned, job_told, jobs_planned, jobs_told};
+ghost use Rattle.std.specs.Prelude.{◌≡◌, List, IfErr, IfOk, OnOk, string_bytes};
+ghost use Rattle.jiff.specs.ZoneView.{plain_zone};
+ghost use Rattle.croncheck_output.specs.Output.{written_of, WritesApart};
+ghost use Rattle.croncheck_planner.specs.PlanAnswers.{WritesAnswers, WritesOtherAnswers, WritesAnswersOn, IsClockAround, IsNoClockAround, other_head, unfollowed_text, IsViewOf, job_planned, job_told, jobs_planned, jobs_told};
 
 use crate::plan::Found;
 use crate::plan::list::head_text;
 use crate::planner::Planned;
 use croncheck_output::output::Output;
 use croncheck_reading::progress::Terms;
+use croner::errors::CronError;
+use croner::time::table::ClockTable;
+use croner_base::limits::SECONDS_PER_DAY;
+use cronplan::{Plan, Span};
 use cronplan_forms::{Job, Questions, View, answers_text};
+use jiff::tz::TimeZone;
 use std::alloc::{AllocError, Global};
 use std::io;
-use std::io::Write;
+use std::io::{ErrorKind, Write};
+
+/// The clock of another zone is taken so many seconds before and after a plan: three days, so that its dates are whole there.
+const SECONDS_AROUND: i64 = 3 * SECONDS_PER_DAY as i64;
 
 /// Writes what a plan of jobs answers, of which this was found: whose its starts are, what it leaves out, and the answers.
 pub(crate) fn write_answers<W: Write>(
@@ -25,12 +34,91 @@ pub(crate) fn write_answers<W: Write>(
     ensures { OnOk result (WritesAnswers terms.now.settings.now terms.now.shared.now front.now jobs.now found.now questions (written_of W.contents output.old) (written_of W.contents output.new)) }
 {
     let told = jobs_of(terms.alloc, jobs)?;
-    let zone = terms.shared.zone.iana_name().unwrap_or("");
-    let view = view_of(terms, zone, found, told.as_slice());
+    let view = view_of(terms, terms.shared.zone_name, found, told.as_slice());
     let text = answers_text(terms.alloc, view, questions)?;
     let starts = found.plan.starts.as_slice();
     output.write_apart(head_text(front, starts.is_empty()))?;
+    output.write_apart(text.as_str())?;
+    write_other_answers(terms, &found.plan, told.as_slice(), questions, output)
+}
+
+// Writes the answers once more on the clock of the other zone, if one is to be shown.
+fn write_other_answers<W: Write>(
+    terms: &Terms<'_, '_>,
+    plan: &Plan,
+    jobs: &[Job<'_>],
+    questions: Questions,
+    output: &mut Output<W>,
+) -> io::Result<()>
+    ensures { OnOk result (WritesOtherAnswers terms.now.shared.now jobs.now plan.now questions (written_of W.contents output.old) (written_of W.contents output.new)) }
+{
+    let Some(zone) = terms.shared.other_zone else {
+        return Ok(());
+    };
+    let name = terms.shared.other_name;
+    match clock_around(terms.alloc, &zone, plan.span) {
+        Ok(table) => write_answers_on(terms.alloc, &table, name, jobs, plan, questions, output),
+        Err(CronError::OutOfMemory) => Err(io::Error::from(ErrorKind::OutOfMemory)),
+        Err(_) => write_unfollowed(terms.alloc, name, output),
+    }
+}
+
+// The clock of a zone in a span and the days before and after it, if it is calm there.
+fn clock_around(alloc: Global, zone: &TimeZone<'_>, span: Span) -> Result<ClockTable, CronError>
+    ensures table { IfOk result (IsClockAround (plain_zone zone.now) span) }
+    ensures err { IfErr result (IsNoClockAround (plain_zone zone.now) span) }
+{
+    let first = span.first.saturating_sub(SECONDS_AROUND);
+    let last = span.end.saturating_add(SECONDS_AROUND);
+    ClockTable::of_zone(alloc, zone, first, last)
+}
+
+fn write_answers_on<W: Write>(
+    alloc: Global,
+    table: &ClockTable,
+    name: &str,
+    jobs: &[Job<'_>],
+    plan: &Plan,
+    questions: Questions,
+    output: &mut Output<W>,
+) -> io::Result<()>
+    ensures { OnOk result (WritesAnswersOn table.now name.now jobs.now plan.now questions (written_of W.contents output.old) (written_of W.contents output.new)) }
+{
+    let plan = plan.on_clock(alloc, table)?;
+    let view = View {
+        plan: &plan,
+        table,
+        zone: name,
+        jobs,
+        frequent: &[],
+        is_cut: false,
+    };
+    let text = answers_text(alloc, view, questions)?;
+    let head = other_head(alloc, name)?;
+    output.write_apart(head.as_str())?;
     output.write_apart(text.as_str())
+}
+
+#[tactic(auto, unfolding(crate::specs::PlanAnswers::other_head))]
+fn other_head(alloc: Global, name: &str) -> Result<String, AllocError>
+    ensures { IfOk result (λ text. string_bytes text ≡ other_head name.now) }
+{
+    format!(in alloc; "on the clock of {name}:\n")
+}
+
+// Writes that the other zone's clock isn't followed.
+fn write_unfollowed<W: Write>(alloc: Global, name: &str, output: &mut Output<W>) -> io::Result<()>
+    ensures { OnOk result (WritesApart (unfollowed_text name.now) (written_of W.contents output.old) (written_of W.contents output.new)) }
+{
+    let text = unfollowed_text(alloc, name)?;
+    output.write_apart(text.as_str())
+}
+
+#[tactic(auto, unfolding(crate::specs::PlanAnswers::unfollowed_text))]
+fn unfollowed_text(alloc: Global, name: &str) -> Result<String, AllocError>
+    ensures { IfOk result (λ text. string_bytes text ≡ unfollowed_text name.now) }
+{
+    format!(in alloc; "the clock of {name} isn't followed in these days\n")
 }
 
 /// What was found of these jobs, as the forms of a plan have it, in a zone of this name.
@@ -62,12 +150,12 @@ pub(crate) fn jobs_of<'p>(alloc: Global, jobs: &'p [Planned]) -> Result<Vec<Job<
 {
     let mut told = Vec::new(alloc);
     for job in jobs {
-        told.push(job_of(job))?;
+        told.push(job_of_planned(job))?;
     }
     Ok(told)
 }
 
-fn job_of(job: &Planned) -> Job<'_>
+fn job_of_planned(job: &Planned) -> Job<'_>
     ensures { job_told result ≡ job_planned job.now }
 {
     Job {

@@ -4,7 +4,7 @@ ghost use Rattle.std.specs.List.{list_any};
 ghost use Rattle.jiff.specs.ZoneView.{plain_zone};
 ghost use Rattle.croncheck_output.specs.Output.{written_of};
 ghost use Rattle.croncheck_planner.specs.Plan.{is_new};
-ghost use Rattle.croncheck_planner.specs.PlanList.{head_text, is_crontab, is_pattern, whose, whose_text, labels, label_at, times_text, line_text, IsClockAt, IsOtherClock, IsMomentText, WritesMoment, WritesLine, WritesNext, WritesStarts, WritesList, over_text, more_text, cut_text, IsListEnd};
+ghost use Rattle.croncheck_planner.specs.PlanList.{head_text, is_crontab, is_pattern, whose_by_kinds, whose_text, labels, label_at, times_text, line_text, IsClockAt, IsOtherClock, IsMomentText, WritesMoment, WritesLine, WritesNext, WritesStarts, WritesList, over_text, more_text, cut_text, IsListEnd};
 ghost use Rattle.croncheck_shown.specs.Shown.{IsClockText, IsWindowEnd};
 
 use crate::plan::{Ending, Found, is_new};
@@ -31,7 +31,7 @@ pub(crate) fn write_list<W: Write>(
 ) -> io::Result<()>
     ensures { OnOk result (WritesList terms.now.settings.now terms.now.shared.now front.now (labels jobs.now) found.now (written_of W.contents output.old) (written_of W.contents output.new)) }
 {
-    let starts = found.listed(terms.settings.listing);
+    let starts = found.listed_starts(terms.settings.listing);
     let is_empty = starts.is_empty();
     output.write_apart(head_text(front, is_empty))?;
     write_starts(terms, jobs, starts, output)?;
@@ -44,11 +44,11 @@ pub(crate) fn write_list<W: Write>(
 pub(crate) fn whose_text(jobs: &[Schedule]) -> &'static str
     ensures { result.now ≡ whose_text jobs.now }
 {
-    whose(any_crontab(jobs), any_pattern(jobs))
+    whose_by_kinds(any_crontab(jobs), any_pattern(jobs))
 }
 
-fn whose(has_crontab: bool, has_pattern: bool) -> &'static str
-    ensures { result.now ≡ whose has_crontab has_pattern }
+fn whose_by_kinds(has_crontab: bool, has_pattern: bool) -> &'static str
+    ensures { result.now ≡ whose_by_kinds has_crontab has_pattern }
 {
     if has_crontab && has_pattern {
         "these are cron's starts of the crontabs, and croner's runs of the patterns\n"
@@ -119,7 +119,7 @@ fn second_of(start: &JobStart) -> i64
     start.second
 }
 
-// Writes a start of a job, behind one at this second, if there is one.
+// Writes a start of a job, after one at this second, if there is one.
 fn write_start<W: Write>(
     terms: &Terms<'_, '_>,
     jobs: &[Planned],
@@ -160,7 +160,7 @@ fn moment_text(terms: &Terms<'_, '_>, second: i64, line: &str) -> Result<String,
     Ok(text)
 }
 
-// Puts what another clock shows behind a text, and a line below it.
+// Puts after a text what another clock shows, and a line below it.
 fn push_below(text: &mut String, other: &str, line: &str) -> Result<(), AllocError>
     ensures { OnOk result (string_bytes text.new ≡ string_bytes text.old ++ (other.now ++ 10 ∷ line.now)) }
 {
@@ -218,7 +218,7 @@ fn line_text(alloc: Global, jobs: &[Planned], start: &JobStart) -> Result<String
     Ok(text)
 }
 
-// Puts what is shown of the job at a place behind a text.
+// Puts after a text what is shown of the job at a place.
 fn push_label(text: &mut String, jobs: &[Planned], place: usize) -> Result<(), AllocError>
     ensures { OnOk result (string_bytes text.new ≡ string_bytes text.old ++ label_at (labels jobs.now) place) }
 {
@@ -237,7 +237,7 @@ fn push_times(text: &mut String, count: u32) -> Result<(), AllocError>
     write!(text, "  {count} times")
 }
 
-// What stands behind the starts of a list, or behind none.
+// What stands after the starts of a list, or after none.
 fn end_text(terms: &Terms<'_, '_>, ending: Ending, is_empty: bool) -> Result<String, AllocError>
     ensures { IfOk result (λ text. IsListEnd terms.now.settings.now terms.now.shared.now ending is_empty (string_bytes text)) }
 {

@@ -5,7 +5,7 @@ ghost use Rattle.crontab.specs.Entries.{entry_seen, job_seen};
 ghost use Rattle.croncheck_planner.specs.Titles.{is_hash, is_no_slash, without_hashes, comment_text, heading, heading_of_comment, is_equals, last_part, title_of_word, title_of_command, title_of_job, title_of};
 
 use croncheck_report::allowed::comment::list_in;
-use crontab::bytes::{Kind, cut, trimmed};
+use crontab::bytes::{Kind, cut, trim_end};
 use crontab::line::{Entry, Job, word};
 use std::alloc::{AllocError, Global};
 
@@ -48,7 +48,7 @@ fn comment_text(line: &[u8]) -> &[u8]
     let (_, comment) = cut(line, Kind::Blank);
     let text = without_hashes(comment);
     let (_, text) = cut(text, Kind::Blank);
-    trimmed(text)
+    trim_end(text)
 }
 
 // A text without the hashes in front.
@@ -134,12 +134,12 @@ fn is_equals(byte: u8) -> bool
 fn last_part(path: &[u8]) -> &[u8]
     ensures { result.now ≡ last_part path.now }
 {
-    let part = path.split_at(path.len() - behind_slash(path)).1;
+    let part = path.split_at(path.len() - length_after_slash(path)).1;
     if part.is_empty() { path } else { part }
 }
 
-// How many bytes stand behind the last slash of a path; all where it has none.
-fn behind_slash(path: &[u8]) -> usize
+// How many bytes stand after the last slash of a path; all where it has none.
+fn length_after_slash(path: &[u8]) -> usize
     ensures count { result ≡ suffix_len is_no_slash path.now }
     ensures within { result ≤ length path.now }
 {

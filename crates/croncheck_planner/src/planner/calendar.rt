@@ -27,10 +27,9 @@ impl Planner {
     ) -> Result<PlanFile, CronError>
         ensures { IfOk result (IsCalendar terms.now.settings.now self.now naming.entry) }
     {
-        let found = self.found(terms)?;
+        let found = self.found_starts(terms)?;
         let told = jobs_of(terms.alloc, self.jobs.as_slice())?;
-        let zone = terms.shared.zone.iana_name().unwrap_or("");
-        let view = view_of(terms, zone, &found, told.as_slice());
+        let view = view_of(terms, terms.shared.zone_name, &found, told.as_slice());
         let text = plan_calendar(terms.alloc, view, naming)?;
         let starts = found.plan.starts.as_slice();
         let is_cut = starts.len() > MOST_EVENTS;

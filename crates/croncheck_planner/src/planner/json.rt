@@ -12,14 +12,10 @@ impl Planner {
     /// The plan as JSON, in a zone of this name: a line with the object that `cronplan_json::plan_json` makes.
     ///
     /// The only error is `OutOfMemory`, as that of `answered_plan`.
-    pub fn json<'p>(
-        &'p self,
-        terms: &'p Terms<'p, 'p>,
-        zone: &'p str,
-    ) -> Result<String, CronError>
+    pub fn json<'p>(&'p self, terms: &'p Terms<'p, 'p>, zone: &'p str) -> Result<String, CronError>
         ensures { IfOk result (λ text. IsJson terms.now.settings.now self.now zone.now (string_bytes text)) }
     {
-        let found = self.found(terms)?;
+        let found = self.found_starts(terms)?;
         let told = jobs_of(terms.alloc, self.jobs.as_slice())?;
         let view = view_of(terms, zone, &found, told.as_slice());
         let mut text = plan_json(terms.alloc, view)?;

@@ -66,7 +66,7 @@ impl PagePlanner {
         ensures { IfOk result (λ text. IsPage terms.now.settings.now self.now zone.now title.now ignored.now (string_bytes text)) }
     {
         let planner = &self.planner;
-        let found = planner.found(terms)?;
+        let found = planner.found_starts(terms)?;
         let told = jobs_of(terms.alloc, planner.jobs.as_slice())?;
         let lines = lines_of(terms.alloc, self.found.as_slice())?;
         let warned = warnings_of(terms.alloc, lines.as_slice())?;
@@ -232,7 +232,7 @@ fn push_reboot(text: &mut String, place: Place<'_>) -> Result<(), AllocError>
     text.push_str("starts as the machine does: it has no time in a plan\n")
 }
 
-// Puts a thing that is wrong behind a text.
+// Puts after a text a thing that is wrong.
 fn push_ignored(text: &mut String, place: Place<'_>, finding: &Finding) -> Result<(), AllocError>
     ensures { OnOk result (string_bytes text.new ≡ string_bytes text.old ++ ignored_line place.entry.file.now place.entry.line finding.now) }
 {

@@ -2,14 +2,14 @@
 ghost use Rattle.std.specs.Prelude.{◌≡◌, ◌||◌, ◌==◌, filter, option_map, IfOk};
 ghost use Rattle.crontab.specs.Bytes.{is_space};
 ghost use Rattle.crontab.specs.Entries.{entry_seen};
-ghost use Rattle.croncheck_report.specs.Allowed.{allowable, names_seen, list_in, is_between, lists, names_in, is_unknown, first_so, items_of, unknown_in_list, unknown_in, names_by, is_listed};
+ghost use Rattle.croncheck_report.specs.Allowed.{allowable, names_seen, list_in, is_between, lists, names_in, is_unknown, first_so, items_of, unknown_in_list, unknown_name_in, names_by, is_listed};
 
 use super::{ALLOWABLE, is_listed, is_text};
 use crontab::bytes::{Kind, cut, is_of, rest_of};
 use crontab::line::{Entry, word};
 use std::alloc::{AllocError, Global};
 
-/// The names that the line of an entry allows to those behind it: those of a comment that allows something, and none where it
+/// The names that the line of an entry allows to those after it: those of a comment that allows something, and none where it
 /// is neither a comment nor blank. `None` where it says nothing of them.
 ///
 /// The only error is want of memory.
@@ -39,11 +39,11 @@ fn names_of_comment(alloc: Global, line: &[u8]) -> Result<Option<Vec<&'static st
 }
 
 /// The first name of a comment's list that no warning has, if there is one.
-pub(crate) fn unknown_in(line: &[u8]) -> Option<&[u8]>
-    ensures { option_map (λ name. name.now) result ≡ unknown_in line.now }
+pub(crate) fn unknown_name_in(line: &[u8]) -> Option<&[u8]>
+    ensures { option_map (λ name. name.now) result ≡ unknown_name_in line.now }
 {
     match list_in(line) {
-        Some(list) => first_unknown(list),
+        Some(list) => first_unknown_name(list),
         None => None,
     }
 }
@@ -114,7 +114,7 @@ fn lists(list: &[u8], name: &str) -> bool
 }
 
 // The first name of a list that no warning has.
-fn first_unknown(list: &[u8]) -> Option<&[u8]>
+fn first_unknown_name(list: &[u8]) -> Option<&[u8]>
     ensures { option_map (λ name. name.now) result ≡ first_so is_unknown (items_of list.now) }
 {
     for item in list.split(|byte| is_between(*byte)) {

@@ -9,12 +9,12 @@ use strsim::levenshtein;
 pub fn push_unknown(alloc: Global, text: &mut String, name: &[u8]) -> Result<(), AllocError> {
     text.push_str("No warning that may be allowed has the name ")?;
     push_front(text, name, COMMAND_BYTES)?;
-    let nearest = nearest_to(alloc, name)?;
+    let nearest = nearest_name(alloc, name)?;
     write!(text, "; the nearest is {nearest}.")
 }
 
 /// Of the names of warnings the one that the fewest changes of a letter make of this one, the first where several are as near.
-pub fn nearest_to(alloc: Global, name: &[u8]) -> Result<&'static str, AllocError> {
+pub fn nearest_name(alloc: Global, name: &[u8]) -> Result<&'static str, AllocError> {
     let text = std::str::from_utf8(name).unwrap_or("");
     let (mut nearest, mut fewest) = (0, usize::MAX);
     for place in 0..ALLOWABLE.len() {

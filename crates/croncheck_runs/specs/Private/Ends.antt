@@ -13,14 +13,14 @@ use Rattle.crontab_runs.specs.declared.listing.StartsEnd.TheVariants as starts_e
 use Rattle.croncheck_runs.specs.Runs.{most_runs}
 
 -- the earlier of two seconds, of which the second one may be none
-abbrev pub earlier : ℤ → Option ℤ → ℤ
-earlier until None = until
-earlier until (Some last) = if int_lt last until then last else until
+abbrev pub earlier_of : ℤ → Option ℤ → ℤ
+earlier_of until None = until
+earlier_of until (Some last) = if int_lt last until then last else until
 
 -- the last second up to which is searched: of none asked the start itself, so that the next run ends the search
 abbrev pub bound : ℤ → Option ℤ → Listing → Option ℤ
 bound start last (listings.Count count) = if count == 0 then Some start else last
-bound start last (listings.Until until) = Some (earlier until last)
+bound start last (listings.Until until) = Some (earlier_of until last)
 
 -- the most runs that are searched
 abbrev pub limit : Listing → ℕ
@@ -37,7 +37,7 @@ abbrev pub end_before : ℤ → Option ℤ → End
 end_before run None = ends.More
 end_before run (Some last) = if int_lt last run then ends.Window else ends.More
 
--- with the years that are searched: behind the end of a window more may come
+-- with the years that are searched: after the end of a window more may come
 abbrev pub end_of_years : Option ℤ → End
 end_of_years None = ends.Over
 end_of_years (Some last) = ends.Window

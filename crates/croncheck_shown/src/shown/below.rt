@@ -1,6 +1,6 @@
 //! What is found of a line, below it.
 ghost use Rattle.std.specs.Prelude.{◌≡◌, ◌++◌, ◌<◌, length, codes, option_map, IfOk, OnOk, string_bytes};
-ghost use Rattle.croncheck_shown.specs.Reported.{field_front, named_text, said_behind, said_as, said_below, below};
+ghost use Rattle.croncheck_shown.specs.Reported.{field_front, named_text, text_after_word, said_as, line_below, text_below};
 
 use croncheck_findings::findings::Finding;
 use croncheck_output::look::Look;
@@ -8,22 +8,22 @@ use croncheck_output::severity::Severity;
 use std::alloc::{AllocError, Global};
 
 /// Findings in order, each on lines of its own, whose line feed stands in front.
-pub(crate) fn below(alloc: Global, look: Look, found: &[Finding]) -> Result<String, AllocError>
-    ensures { IfOk result (λ text. string_bytes text ≡ below look found.now) }
+pub(crate) fn text_below(alloc: Global, look: Look, found: &[Finding]) -> Result<String, AllocError>
+    ensures { IfOk result (λ text. string_bytes text ≡ text_below look found.now) }
 {
     let mut text = String::new(alloc);
     push_below(alloc, look, &mut text, found)?;
     Ok(text)
 }
 
-/// Puts findings behind a text, in the same way.
+/// Puts findings after a text, in the same way.
 pub(crate) fn push_below(
     alloc: Global,
     look: Look,
     text: &mut String,
     found: &[Finding],
 ) -> Result<(), AllocError>
-    ensures { OnOk result (string_bytes text.new ≡ string_bytes text.old ++ below look found.now) }
+    ensures { OnOk result (string_bytes text.new ≡ string_bytes text.old ++ text_below look found.now) }
 {
     let mut rest = found;
     while !rest.is_empty() {
@@ -32,7 +32,7 @@ pub(crate) fn push_below(
     Ok(())
 }
 
-// Puts the first of some findings behind a text. Those behind it are left.
+// Puts the first of some findings after a text. Those after it are left.
 #[tactic(auto, using(crate::proofs::Found::one_below))]
 fn push_first<'f>(
     alloc: Global,
@@ -41,12 +41,12 @@ fn push_first<'f>(
     found: &'f [Finding],
 ) -> Result<&'f [Finding], AllocError>
     requires { 0 < length found.now }
-    ensures said { IfOk result (λ rest. string_bytes text.new ++ below look rest.now ≡ string_bytes text.old ++ below look found.now) }
+    ensures said { IfOk result (λ rest. string_bytes text.new ++ text_below look rest.now ≡ string_bytes text.old ++ text_below look found.now) }
     ensures shorter { IfOk result (λ rest. length rest.now < length found.now) }
 {
     match found {
         [first, rest @ ..] => {
-            let said = said_below(alloc, look, first)?;
+            let said = line_below(alloc, look, first)?;
             text.push_str(said.as_str())?;
             Ok(rest)
         }
@@ -54,42 +54,42 @@ fn push_first<'f>(
     }
 }
 
-fn said_below(alloc: Global, look: Look, finding: &Finding) -> Result<String, AllocError>
-    ensures { IfOk result (λ text. string_bytes text ≡ said_below look finding.now) }
+fn line_below(alloc: Global, look: Look, finding: &Finding) -> Result<String, AllocError>
+    ensures { IfOk result (λ text. string_bytes text ≡ line_below look finding.now) }
 {
-    let said = said(alloc, look, finding)?;
+    let said = finding_text(alloc, look, finding)?;
     format!(in alloc; "\n  {said}")
 }
 
-fn said(alloc: Global, look: Look, finding: &Finding) -> Result<String, AllocError>
+fn finding_text(alloc: Global, look: Look, finding: &Finding) -> Result<String, AllocError>
     ensures { IfOk result (λ text. string_bytes text ≡ said_as look finding.now.severity finding.now) }
 {
     match finding.severity {
         Severity::Error => {
-            let text = look.broken(alloc, finding.text.as_str())?;
-            look.painted(alloc, finding.severity, text.as_str())
+            let text = look.broken_text(alloc, finding.text.as_str())?;
+            look.painted_text(alloc, finding.severity, text.as_str())
         }
-        Severity::Warning => said_behind(alloc, look, "warning:", finding),
-        Severity::Note => said_behind(alloc, look, "note:", finding),
+        Severity::Warning => text_after_word(alloc, look, "warning:", finding),
+        Severity::Note => text_after_word(alloc, look, "note:", finding),
     }
 }
 
 // A word in the colour of a finding, and what the finding says.
-fn said_behind(
+fn text_after_word(
     alloc: Global,
     look: Look,
     word: &str,
     finding: &Finding,
 ) -> Result<String, AllocError>
-    ensures { IfOk result (λ text. string_bytes text ≡ said_behind look word.now finding.now) }
+    ensures { IfOk result (λ text. string_bytes text ≡ text_after_word look word.now finding.now) }
 {
-    let word = look.painted(alloc, finding.severity, word)?;
+    let word = look.painted_text(alloc, finding.severity, word)?;
     let said = named_text(alloc, finding)?;
-    let said = look.broken(alloc, said.as_str())?;
+    let said = look.broken_text(alloc, said.as_str())?;
     format!(in alloc; "{word}{said}")
 }
 
-// What a warning or a note says, behind the word for which of them it is.
+// What a warning or a note says, after the word for which of them it is.
 fn named_text(alloc: Global, finding: &Finding) -> Result<String, AllocError>
     ensures { IfOk result (λ text. string_bytes text ≡ named_text finding.now) }
 {

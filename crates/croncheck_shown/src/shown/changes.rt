@@ -13,8 +13,8 @@ pub(crate) fn push_next_changes(
     if job.command.is_none() {
         return Ok(());
     }
-    let gap = without_warning(&job.meetings.gap);
-    let repeated = without_warning(&job.meetings.repeated);
+    let gap = meeting_without_warning(&job.meetings.gap);
+    let repeated = meeting_without_warning(&job.meetings.repeated);
     match (gap, repeated) {
         (Some(gap), Some(repeated)) if repeated.change.instant < gap.change.instant => {
             push_two_changes(text, repeated, gap)
@@ -25,7 +25,7 @@ pub(crate) fn push_next_changes(
     }
 }
 
-fn without_warning(met: &Option<Met>) -> Option<Meeting> {
+fn meeting_without_warning(met: &Option<Met>) -> Option<Meeting> {
     match met {
         Some(met) if !met.is_warned() => Some(met.meeting),
         _ => None,

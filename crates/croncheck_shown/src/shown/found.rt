@@ -2,7 +2,7 @@
 ghost use Rattle.std.specs.Prelude.{IfOk, string_bytes};
 ghost use Rattle.croncheck_shown.specs.Reported.{IsTextOfFound, IsFinding};
 
-use super::below::below;
+use super::below::text_below;
 use super::{View, push_head, push_setting, push_view, text_of_place};
 use croncheck_findings::findings::{Finding, findings_of};
 use croncheck_output::look::Look;
@@ -47,7 +47,7 @@ fn text_of_found(
     }
     let place = text_of_place(alloc, place)?;
     push_line(&mut head, look, place.as_str().width(), line, report)?;
-    let below = below(alloc, look, found)?;
+    let below = text_below(alloc, look, found)?;
     format!(in alloc; "{place}{head}{below}\n")
 }
 

@@ -20,7 +20,7 @@ pub(super) fn push_often(
     text.push_str("\n  ")?;
     push_count(text, shared.language, often.starts)?;
     push_span(text, shared, often)?;
-    text.push_str(extent(shared.language, often.reach))?;
+    text.push_str(reach_text(shared.language, often.reach))?;
     if let Some(shortest) = often.shortest {
         text.push_str(front_of_most(shared.language, often.reach))?;
         push_most(text, shared.language, often.most_a_day)?;
@@ -44,7 +44,7 @@ fn push_count(text: &mut String, language: Tongue, starts: u64) -> Result<(), Al
 fn push_span(text: &mut String, shared: &Shared<'_>, often: &Often) -> Result<(), AllocError> {
     let language = shared.language;
     match (often.reach, shared.listing) {
-        (Reach::Whole, Listing::Until(_)) => text.push_str(up_to_then(language)),
+        (Reach::Whole, Listing::Until(_)) => text.push_str(up_to_then_text(language)),
         (Reach::Whole, Listing::Count(_)) => match language {
             Tongue::English => write!(text, " in {SPAN_DAYS} days"),
             Tongue::Swedish => write!(text, " på {SPAN_DAYS} dagar"),
@@ -61,7 +61,7 @@ fn push_span(text: &mut String, shared: &Shared<'_>, often: &Often) -> Result<()
     }
 }
 
-fn up_to_then(language: Tongue) -> &'static str {
+fn up_to_then_text(language: Tongue) -> &'static str {
     match language {
         Tongue::English => " up to then",
         Tongue::Swedish => " till dess",
@@ -69,7 +69,7 @@ fn up_to_then(language: Tongue) -> &'static str {
 }
 
 // Why the rest of the span isn't counted, if it isn't.
-fn extent(language: Tongue, reach: Reach) -> &'static str {
+fn reach_text(language: Tongue, reach: Reach) -> &'static str {
     match (language, reach) {
         (_, Reach::Whole) => "",
         (Tongue::English, Reach::Cut) => ", where a list ends",

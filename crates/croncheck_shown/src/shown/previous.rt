@@ -29,7 +29,7 @@ fn push_run(text: &mut String, shared: &Shared<'_>, run: &Run<'_>) -> Result<(),
     push_starts(text, run)
 }
 
-// Puts how long ago a second was behind a text, if that is to be told.
+// Puts after a text how long ago a second was, if that is to be told.
 fn push_ago(text: &mut String, shared: &Shared<'_>, second: i64) -> Result<(), AllocError> {
     match shared.off_from {
         Some(from) if second <= from => {

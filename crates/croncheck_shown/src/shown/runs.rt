@@ -72,7 +72,7 @@ pub(crate) fn push_starts(text: &mut String, run: &Run<'_>) -> Result<(), AllocE
     push_made_up(text, run)
 }
 
-/// Puts what another zone's clock shows at a second behind a text, if it is to be shown.
+/// Puts after a text what another zone's clock shows at a second, if it is to be shown.
 pub fn push_other_clock(
     text: &mut String,
     shared: &Shared<'_>,
@@ -91,7 +91,7 @@ pub fn push_other_clock(
     write!(text, "  = {date} {time} {ahead}")
 }
 
-// Puts how far off a second is behind a text, if that is to be told.
+// Puts after a text how far off a second is, if that is to be told.
 fn push_off(text: &mut String, shared: &Shared<'_>, second: i64) -> Result<(), AllocError> {
     match shared.off_from {
         Some(from) if from <= second => {
@@ -119,7 +119,7 @@ fn push_made_up(text: &mut String, run: &Run<'_>) -> Result<(), AllocError> {
     text.push_str(", which the clock skips")
 }
 
-// What stands behind the runs of a job that has some, or may have some.
+// What stands after the runs of a job that has some, or may have some.
 fn push_end(
     alloc: Global,
     text: &mut String,

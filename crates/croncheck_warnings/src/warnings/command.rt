@@ -7,7 +7,7 @@ use crontab::bytes::{Kind, begins_with, cut};
 use crontab::line::word;
 use crontab::notes::looks_like_weekdays;
 
-/// Whether a command is spaces alone, or begins with `#` behind blanks.
+/// Whether a command is spaces alone, or begins with `#` after blanks.
 pub fn has_no_command(command: &[u8]) -> bool
     ensures { result ≡ has_no_command command.now }
 {
@@ -41,15 +41,15 @@ pub fn has_no_user_sign(name: &[u8]) -> bool
 pub fn begins_with_root(command: &[u8]) -> bool
     ensures { result ≡ begins_with_root command.now }
 {
-    let (name, behind) = cut(command, Kind::Word);
-    name == "root".as_bytes() && !behind.is_empty()
+    let (name, after) = cut(command, Kind::Word);
+    name == "root".as_bytes() && !after.is_empty()
 }
 
 /// What was met of a command so far.
 #[derive(Clone, Copy)]
 enum Met {
     Plain,
-    /// A backslash, which takes in the byte behind it.
+    /// A backslash, which takes in the byte after it.
     Backslash,
     /// A percent sign that no backslash took in.
     Percent,
@@ -85,7 +85,7 @@ pub fn has_percent(command: &[u8]) -> bool
 }
 
 // How many backslashes a command ends with.
-fn backslashes_behind(command: &[u8]) -> usize
+fn backslashes_at_end(command: &[u8]) -> usize
     ensures { result ≡ suffix_len (λ b. b == 92) command.now }
 {
     command
@@ -99,7 +99,7 @@ fn backslashes_behind(command: &[u8]) -> usize
 pub fn is_continued(command: &[u8]) -> bool
     ensures { result ≡ is_continued command.now }
 {
-    backslashes_behind(command) % 2 == 1
+    backslashes_at_end(command) % 2 == 1
 }
 
 /// Whether a command ends with a carriage return.

@@ -68,7 +68,7 @@ pub fn fields_of_pattern(alloc: Global, text: &str) -> Result<Option<Fields<'_>>
     ensures { IfOk result (λ fields. AreFieldsOfPattern text.now (option_map fields_seen fields)) }
 {
     let words = words_of(alloc, text)?;
-    Ok(seven(words.as_slice()))
+    Ok(fields_by_count(words.as_slice()))
 }
 
 // The words of a text: its pieces between white space.
@@ -83,7 +83,7 @@ fn words_of(alloc: Global, text: &str) -> Result<Vec<&[u8]>, AllocError>
 }
 
 // Words as fields: five have no seconds, and five or six no years.
-fn seven<'l>(words: &[&'l [u8]]) -> Option<Fields<'l>>
+fn fields_by_count<'l>(words: &[&'l [u8]]) -> Option<Fields<'l>>
     ensures { option_map fields_seen result ≡ seven (map (λ w. w.now) words.now) }
 {
     match words {

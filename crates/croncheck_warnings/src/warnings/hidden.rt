@@ -14,7 +14,7 @@ fn is_control(byte: u8) -> bool
     byte < 32 && byte != b'\t' || byte == 127
 }
 
-// Whether two bytes behind the first make one of these characters.
+// Whether two bytes after the first make one of these characters.
 fn is_hiding(a: u8, b: u8) -> bool
     ensures { result ≡ is_hiding a b }
 {

@@ -125,7 +125,7 @@ fn all_late(days: &[u16]) -> bool
 }
 
 // Whether one of some days is wanting in one of some months of one of some years.
-fn some_wanting(days: &[u16], years: &[u16], months: &[u16]) -> bool
+fn is_some_wanting(days: &[u16], years: &[u16], months: &[u16]) -> bool
     ensures { result ≡ list_any (is_wanting years.now months.now) days.now }
 {
     days.iter().any(|day| is_wanting(years, months, *day))
@@ -135,7 +135,7 @@ fn some_wanting(days: &[u16], years: &[u16], months: &[u16]) -> bool
 fn are_late(days: &[u16], years: &[u16], months: &[u16]) -> bool
     ensures { result ≡ are_late days.now years.now months.now }
 {
-    all_late(days) && some_wanting(days, years, months)
+    all_late(days) && is_some_wanting(days, years, months)
 }
 
 fn is_only(value: u16, values: &[u16]) -> bool

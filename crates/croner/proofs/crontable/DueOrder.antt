@@ -53,16 +53,16 @@ ordered Backward n m p q h = elim (first_or_then (int_cmp n m) (nat_cmp q p) h) 
 
 module _ {T : Type 0} (moment : T → Moment) (direction : Direction) where
   -- the second comes no earlier, and has no lower place where it stands at the same instant
-  abbrev pub ComesBehind : Due T → Due T → Type 0
-  ComesBehind x y = Reaches direction (nanos_due moment x) (nanos_due moment y) × (nanos_due moment y ≡ nanos_due moment x → x.place ≤ y.place)
+  abbrev pub ComesAfter : Due T → Due T → Type 0
+  ComesAfter x y = Reaches direction (nanos_due moment x) (nanos_due moment y) × (nanos_due moment y ≡ nanos_due moment x → x.place ≤ y.place)
 
-  pub comes_behind : (x y : Due T) → x.direction ≡ direction → y.direction ≡ direction → is_lt (due_cmp moment x y) ≡ false → ComesBehind x y
-  comes_behind x y e f h =
+  pub comes_after : (x y : Due T) → x.direction ≡ direction → y.direction ≡ direction → is_lt (due_cmp moment x y) ≡ false → ComesAfter x y
+  comes_after x y e f h =
       let P : Direction → Type 0 = λ d. is_lt (order d (nanos_due moment x) x.place y.direction (nanos_due moment y) y.place) ≡ false in
       let Q : Direction → Type 0 = λ d. is_lt (order direction (nanos_due moment x) x.place d (nanos_due moment y) y.place) ≡ false in
       ordered direction (nanos_due moment x) (nanos_due moment y) x.place y.place (subst Q f (subst P e h))
 
-  pub all_behind : (x : Due T) (dues : List (Due T)) → IsUpperBound (due_cmp moment) x dues → x.direction ≡ direction → All (λ y. y.direction ≡ direction) dues → All (ComesBehind x) dues
-  all_behind x dues above e all k d lt =
+  pub all_after : (x : Due T) (dues : List (Due T)) → IsUpperBound (due_cmp moment) x dues → x.direction ≡ direction → All (λ y. y.direction ≡ direction) dues → All (ComesAfter x) dues
+  all_after x dues above e all k d lt =
       let test = All-from_recursion (λ y. is_lt (due_cmp moment x y) ≡ false) dues above in
-      comes_behind x (get_or dues k d) e (all k d lt) (test k d lt)
+      comes_after x (get_or dues k d) e (all k d lt) (test k d lt)

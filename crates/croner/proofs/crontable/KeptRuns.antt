@@ -264,7 +264,7 @@ begun_either {T} {d} {c} moment patterns direction inclusive start old new jobs 
   | inr e ↦ begun_kept moment patterns direction inclusive start (heap_items new.dues) new.waiting.items new.is_limited jobs all (none e) (below e) (once e) (other e)
 ]
 
--- what is kept behind an item
+-- what is kept after an item
 pub kept_after : {T : Type 0} {d : _} {c : _} (moment : T → Moment) (patterns : List Meaning) (direction : Direction) (is_first inclusive : Bool) (start item : Moment) (old new : Kept T d c) (keeps : Bool)
     → (keeps ≡ true → new ≡ old) → (keeps ≡ false → new.is_begun ≡ false) → (IsTrue keeps → is_first ≡ false) → (IsTrue keeps → IsWithin direction (reading item))
     → (is_first ≡ false → start.fraction ≡ 0) → LeadsTo direction start item → LieAhead moment direction item (heap_items old.dues)
@@ -315,7 +315,7 @@ pub held_by : {T : Type 0} {d : _} {c : _} (moment : T → Moment) (patterns : L
 held_by moment patterns direction inclusive start old new (Ok u) known same none refused begun = held_either moment patterns direction inclusive start old new known same none
 held_by moment patterns direction inclusive start old new (Err e) known same none refused begun = absurd (false≢true (sym refused.1 ∙ begun))
 
--- behind an item no run is held
+-- after an item no run is held
 pub held_after : {T : Type 0} {d : _} {c : _} (old new : Kept T d c) (keeps : Bool) → (keeps ≡ true → new ≡ old) → (keeps ≡ false → new.is_begun ≡ false) → old.found ≡ None → new.is_begun ≡ true
     → (run : T) → new.found ≡ Some run → ⊥
 held_after {T} {d} {c} old new true same gone none begun run is = none_is_some run (sym (ap (λ (k : Kept T d c). k.found) (same refl) ∙ none) ∙ is)

@@ -11,7 +11,7 @@ use Rattle.croner.specs.Views.{job_of}
 pub map-remove : {X Y : Type 0} (f : X → Y) (xs : List X) (i : ℕ) → map f (remove xs i) ≡ remove (map f xs) i
 map-remove f xs i =
     let before : take i (map f xs) ≡ map f (take i xs) = take-map f i xs in
-    let behind : drop (suc i) (map f xs) ≡ map f (drop (suc i) xs) = drop-map f (suc i) xs in
+    let after : drop (suc i) (map f xs) ≡ map f (drop (suc i) xs) = drop-map f (suc i) xs in
     let both : map f (take i xs ++ drop (suc i) xs) ≡ map f (take i xs) ++ map f (drop (suc i) xs) = map-append f (take i xs) (drop (suc i) xs) in
     cc
 

@@ -30,7 +30,7 @@ use Rattle.croner.proofs.iterator.ThereAndBack.{searchable_run}
 
 -- what counts from the start, of a position that lies no earlier: ahead of the position it counts from there too
 module _ (direction : Direction) (inclusive : Bool) (patterns : List Meaning) (z : Zone) (s t : ℤ) (on : Reaches direction s t) where
-  -- what is left behind an item
+  -- what is left after an item
   at_within : (k : ℕ) (i : ℤ) → CountsAt direction false patterns z t k i → CountsAt direction inclusive patterns z s k i
   at_within k i at = record {
     pattern = at.pattern;
@@ -119,7 +119,7 @@ module _ (cur : TableStanding) (item : Moment) (places : List ℕ) (new : TableS
           | inr ahead ↦ inr (k, moved_back k i ahead at)
         ];
     within = λ i (k, at). (k, moved_within k i at);
-    behind = moved_ahead;
+    later = moved_ahead;
   }
 
 searchable_at : (cur : TableStanding) (item : Moment) (places : List ℕ) (new : TableStanding) → GivesTableItem cur item places new → IsSearchable cur.position → IsSearchable item
@@ -160,7 +160,7 @@ goes_to old cur new items item places g n =
 pub gave_table : (old cur : TableStanding) (items : List (ℤ × List ℕ)) → TableGoes old cur items → StartsCalm old.position → GaveTable old cur items
 gave_table old cur items g p =
     let s = g.splits p in
-    record { ordered = s.ordered; counts = s.counts; either = s.either; behind = s.behind; within = s.within; places = g.places p }
+    record { ordered = s.ordered; counts = s.counts; either = s.either; later = s.later; within = s.within; places = g.places p }
 
 pub begins_table_rest : (old cur : TableStanding) (items : List (ℤ × List ℕ)) → TableGoes old cur items → StartsCalm old.position → BeginsTableRest old items
 begins_table_rest old cur items g p = record {
@@ -239,7 +239,7 @@ module _ {T : Type 0} {d : _} {c : _} (moment : T → Moment) (old : TableStandi
 
 -- ---- taken up at an item
 
--- what is left behind an item hangs on patterns, direction and item alone
+-- what is left after an item hangs on patterns, direction and item alone
 pub same_table_rest : (s : TableStanding) (ms : List Meaning) (d : Direction) (at : Moment) → s.patterns ≡ ms → s.direction ≡ d → (k : ℕ) (i : ℤ)
     → IsLeftAt (table_moved s at) k i ↔ IsLeftAt (new_table_standing ms at false d) k i
 same_table_rest s ms d at p q k i = rw (p, q) (λ h. h, λ h. h)

@@ -286,7 +286,7 @@ module _ {T : Type 0} (moment : T → Moment) (direction : Direction) (inclusive
             };
           }
 
-      -- behind it nothing changes
+      -- after it nothing changes
       later : (near : T) → old.nearest ≡ Some near → Precedes direction (nanos_of (moment near)) (nanos_of (moment found)) → Searched (n + 1) old
       later near at before_nanos =
           let best = s.best near at in

@@ -43,7 +43,7 @@ gives_none old until = record {
       ordered = λ k j d before within. absurd (omega (arith, within));
       counts = All-nil (IsTableLeft old);
       either = λ i left. inr left;
-      behind = λ i left. All-nil (λ x. Precedes old.direction x i);
+      later = λ i left. All-nil (λ x. Precedes old.direction x i);
       within = λ i left. left;
     };
     within_at = λ calm k i at. at;

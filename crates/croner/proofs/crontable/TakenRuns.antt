@@ -29,7 +29,7 @@ use Rattle.croner.specs.search.PatternJob.{timetable_of}
 use Rattle.croner.specs.search.Premises.{StartsCalm}
 use Rattle.croner.specs.search.Runs.{Precedes, Reaches}
 use Rattle.croner.specs.search.Searches.{IsFound}
-use Rattle.croner.proofs.crontable.DueOrder.{ComesBehind, all_behind}
+use Rattle.croner.proofs.crontable.DueOrder.{ComesAfter, all_after}
 use Rattle.croner.proofs.crontable.KeptRuns.{same_place, counted_once, counted_never, popped_kept}
 use Rattle.croner.proofs.crontable.KnownRuns.{found_known}
 use Rattle.croner.proofs.crontable.TableRuns.{IsBest, Span, Searched, order_nanos, found_met, none_met, room_refused, refused_in_room}
@@ -98,7 +98,7 @@ module _ {T : Type 0} (moment : T → Moment) (patterns : List Meaning) (directi
     pub some : 0 < length waiting
     pub ordered : AllPairs (◌<◌) waiting
     pub finds : All (λ k. Finds k (moment first)) waiting
-    pub behind : All (λ due. Reaches direction (nanos_of (moment first)) (nanos_due moment due)) dues
+    pub due_after : All (λ due. Reaches direction (nanos_of (moment first)) (nanos_due moment due)) dues
     pub above : All (λ due. nanos_due moment due ≡ nanos_of (moment first) → All (λ k. k < due.place) waiting) dues
     pub zone : (moment first).zone ≡ start.zone
     pub whole : (moment first).fraction ≡ 0
@@ -142,8 +142,8 @@ module _ {T : Type 0} (moment : T → Moment) (patterns : List Meaning) (directi
     finds_it : Found popped.due.place (moment run)
     finds_it = let P : T → Type 0 = λ t. Found popped.due.place (moment t) in subst P popped.gives (due_finds popped.due mine)
 
-    later : All (ComesBehind moment direction popped.due) rest
-    later = all_behind moment direction popped.due rest popped.above mine.0 (ways rest after.0)
+    later : All (ComesAfter moment direction popped.due) rest
+    later = all_after moment direction popped.due rest popped.above mine.0 (ways rest after.0)
 
     -- each that stands at its instant has a higher place
     higher : All (λ due. nanos_due moment due ≡ nanos_due moment popped.due → popped.due.place < due.place) rest
@@ -167,7 +167,7 @@ module _ {T : Type 0} (moment : T → Moment) (patterns : List Meaning) (directi
           some = let l = length_push waiting popped.due.place in let e = ap length popped.waits in omega (arith, l, e);
           ordered = subst (AllPairs (◌<◌)) (sym one) (all_pairs_push (◌<◌) [] popped.due.place no_pairs (λ k d within. absurd (omega arith)));
           finds = let P : ℕ → Type 0 = λ k. Found k (moment run) in subst (All P) (sym one) (All-push P [] popped.due.place (All-nil P) finds_it);
-          behind = λ k d lt. let P : ℤ → Type 0 = λ n. Reaches direction n (nanos_due moment (get_or rest k d)) in subst P nanos_run (later k d lt).0;
+          due_after = λ k d lt. let P : ℤ → Type 0 = λ n. Reaches direction n (nanos_due moment (get_or rest k d)) in subst P nanos_run (later k d lt).0;
           above = λ k d lt e.
               let P : ℕ → Type 0 = λ p. p < (get_or rest k d).place in
               subst (All P) (sym one) (All-push P [] popped.due.place (All-nil P) (higher k d lt (e ∙ sym nanos_run)));
@@ -185,7 +185,7 @@ module _ {T : Type 0} (moment : T → Moment) (patterns : List Meaning) (directi
         let same : moment popped.due.run ≡ moment first = same_moment (moment popped.due.run) (moment first) (found.zone ∙ sym taken.zone) instant (found.whole ∙ sym taken.whole) in
         let B : Due T → Type 0 = λ due. Reaches direction (nanos_of (moment first)) (nanos_due moment due) in
         let A : Due T → Type 0 = λ due. nanos_due moment due ≡ nanos_of (moment first) → All (λ k. k < due.place) waiting in
-        let behind = All-permutation B dues (popped.due ∷ rest) popped.items taken.behind in
+        let due_after = All-permutation B dues (popped.due ∷ rest) popped.items taken.due_after in
         let above = All-permutation A dues (popped.due ∷ rest) popped.items taken.above in
         record {
           kept = after;
@@ -193,7 +193,7 @@ module _ {T : Type 0} (moment : T → Moment) (patterns : List Meaning) (directi
           ordered = subst (AllPairs (◌<◌)) (sym popped.waits) (all_pairs_push (◌<◌) waiting popped.due.place taken.ordered (All-head A popped.due rest above level));
           finds = let P : ℕ → Type 0 = λ k. Found k (moment first) in
               subst (All P) (sym popped.waits) (All-push P waiting popped.due.place taken.finds (subst (Found popped.due.place) same (due_finds popped.due mine)));
-          behind = All-tail B popped.due rest behind;
+          due_after = All-tail B popped.due rest due_after;
           above = λ k d lt e.
               let P : ℕ → Type 0 = λ p. p < (get_or rest k d).place in
               subst (All P) (sym popped.waits) (All-push P waiting popped.due.place (All-tail A popped.due rest above k d lt e) (higher k d lt (e ∙ sym level)));
@@ -209,7 +209,7 @@ module _ {T : Type 0} (moment : T → Moment) (patterns : List Meaning) (directi
   taken_again dues rest waiting more lim mark first n None same popped none some taken tied = absurd (omega (arith, none, some))
 
   module _ (first : T) (dues : List (Due T)) (waiting : List ℕ) (is_limited : Bool) (taken : Took first dues waiting is_limited) where
-    -- the others stand behind it, where the first of them stands at another instant
+    -- the others stand after it, where the first of them stands at another instant
     pub rest_ahead : (0 < length dues → IsApart moment dues first) → All (λ due. Precedes direction (nanos_of (moment first)) (nanos_due moment due)) dues
     rest_ahead apart k d lt =
         let due = get_or dues k d in
@@ -217,9 +217,9 @@ module _ {T : Type 0} (moment : T → Moment) (patterns : List Meaning) (directi
         let here : top.due ≡ get_or dues 0 top.due = top.first in
         let R : Due T → Type 0 = λ x. Reaches direction (nanos_of (moment first)) (nanos_due moment x) in
         let W : Due T → Type 0 = λ x. x.direction ≡ direction in
-        let reach = subst R (sym here) (taken.behind 0 top.due (omega (arith, lt))) in
+        let reach = subst R (sym here) (taken.due_after 0 top.due (omega (arith, lt))) in
         let way = subst W (sym here) (taken.kept.0 0 top.due (omega (arith, lt))).0 in
-        let later = all_behind moment direction top.due dues top.above way (ways dues taken.kept.0) in
+        let later = all_after moment direction top.due dues top.above way (ways dues taken.kept.0) in
         elim (same_or_ahead direction (nanos_of (moment first)) (nanos_due moment top.due) reach) [
           | inl level ↦ absurd (top.other (sym level))
           | inr before ↦ precedes-trans direction (nanos_of (moment first)) (nanos_due moment top.due) (nanos_due moment due) before (later k d lt).0

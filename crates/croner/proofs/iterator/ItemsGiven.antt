@@ -78,7 +78,7 @@ goes_to old cur new items item g n =
 pub gave : (old cur : Standing) (items : List ℤ) → Goes old cur items → StartsCalm old.position → Gave old cur items
 gave old cur items g p =
     let s = g.splits p in
-    record { ordered = s.ordered; counts = s.counts; either = s.either; behind = s.behind; within = s.within }
+    record { ordered = s.ordered; counts = s.counts; either = s.either; later = s.later; within = s.within }
 
 pub begins_rest : (old cur : Standing) (items : List ℤ) → Goes old cur items → StartsCalm old.position → BeginsRest old items
 begins_rest old cur items g p =

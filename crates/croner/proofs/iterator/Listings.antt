@@ -1,4 +1,4 @@
--- Listings of runs, item by item: a list that begins what is left, and what is left behind its last item.
+-- Listings of runs, item by item: a list that begins what is left, and what is left after its last item.
 use Rattle.std.proofs.Common.{◌≡◌, ◌↔◌, ℤ, ◌⊎◌, sym, inl, inr, subst, Bool, false, List, [], ◌∷◌, ◌++◌, get_or, rules, arith}
 use Rattle.std.proofs.lemmas.Int.{ints}
 use Rattle.std.proofs.lemmas.Bool.{false≢true}
@@ -16,7 +16,7 @@ use Rattle.croner.proofs.zone.Ahead.{opposite, same_or_ahead}
 use Rattle.croner_base.specs.declared.time.Direction.{Direction}
 use Rattle.croner_base.specs.declared.time.Direction.TheVariants.{Forward, Backward}
 
--- ---- what counts behind the nearest run
+-- ---- what counts after the nearest run
 
 -- what counts from the start is the nearest run, or counts from it
 pub after_nearest : (direction : Direction) (inclusive : Bool) (job : Job) (s t i : ℤ) → Nearest direction inclusive job s t → Counts direction inclusive job s i → (i ≡ t) ⊎ Counts direction false job t i
@@ -37,12 +37,12 @@ counts_after direction inclusive job s t i near counts =
 
 -- ---- lists
 
--- the items come first among those that are left, and what is left behind them is the second
+-- the items come first among those that are left, and what is left after them is the second
 pub record Splits (direction : Direction) (left rest : ℤ → Type 0) (items : List ℤ) : Type 0 where
   pub ordered : AllPairs (Precedes direction) items
   pub counts : All left items
   pub either : (i : ℤ) → left i → Contains items i ⊎ rest i
-  pub behind : (i : ℤ) → rest i → All (λ x. Precedes direction x i) items
+  pub later : (i : ℤ) → rest i → All (λ x. Precedes direction x i) items
   pub within : (i : ℤ) → rest i → left i
 
 -- the nearest of the rest is the next item
@@ -50,11 +50,11 @@ pub record IsNext (direction : Direction) (rest after : ℤ → Type 0) (t : ℤ
   pub is : rest t
   pub or_after : (i : ℤ) → rest i → (i ≡ t) ⊎ after i
   pub within : (i : ℤ) → after i → rest i
-  pub behind : (i : ℤ) → after i → Precedes direction t i
+  pub later : (i : ℤ) → after i → Precedes direction t i
 
 pub splits_next : (direction : Direction) (left rest after : ℤ → Type 0) (items : List ℤ) (t : ℤ) → Splits direction left rest items → IsNext direction rest after t → Splits direction left after (items ++ t ∷ [])
 splits_next direction left rest after items t s n = record {
-  ordered = all_pairs_push (Precedes direction) items t s.ordered (λ k d within. All-contains (λ x. Precedes direction x t) items (get_or items k d) (s.behind t n.is) (k, within, Prim.search rules));
+  ordered = all_pairs_push (Precedes direction) items t s.ordered (λ k d within. All-contains (λ x. Precedes direction x t) items (get_or items k d) (s.later t n.is) (k, within, Prim.search rules));
   counts = All-push left items t s.counts (s.within t n.is);
   either = λ i h.
       elim (s.either i h) [
@@ -65,7 +65,7 @@ splits_next direction left rest after items t s n = record {
               | inr a ↦ inr a
             ]
       ];
-  behind = λ i a. All-push (λ x. Precedes direction x i) items t (s.behind i (n.within i a)) (n.behind i a);
+  later = λ i a. All-push (λ x. Precedes direction x i) items t (s.later i (n.within i a)) (n.later i a);
   within = λ i a. s.within i (n.within i a);
 }
 
@@ -77,7 +77,7 @@ begins_where direction left rest items h = record {
   complete = λ i last counts has reaches.
       elim (h.either i counts) [
         | inl had ↦ had
-        | inr r ↦ absurd (omega (arith, ints, All-contains (λ x. Precedes direction x i) items last (h.behind i r) has))
+        | inr r ↦ absurd (omega (arith, ints, All-contains (λ x. Precedes direction x i) items last (h.later i r) has))
       ];
 }
 
@@ -98,7 +98,7 @@ is_next direction inclusive job s t near = record {
   is = near.counts;
   or_after = λ i h. after_nearest direction inclusive job s t i near h;
   within = λ i h. counts_after direction inclusive job s t i near h;
-  behind = λ i h. past_start direction job t i h;
+  later = λ i h. past_start direction job t i h;
 }
 
 -- back from the next run: the run itself
@@ -114,7 +114,7 @@ there_and_back job r n b run next back =
 
 -- ---- taken up at an item
 
--- what is left behind an item hangs on pattern, direction and item alone
+-- what is left after an item hangs on pattern, direction and item alone
 pub same_rest : (s : Standing) (m : Meaning) (d : Direction) (at : Moment) → s.pattern ≡ m → s.direction ≡ d → (i : ℤ)
     → IsLeft (moved s at) i ↔ IsLeft (new_standing m at false d) i
 same_rest s m d at p q i = rw (p, q) (λ h. h, λ h. h)

@@ -28,7 +28,7 @@ first_of_3 : day_number (pos 3) 1 1 ≡ neg_ℤ (pos 718_432)
 unfolding day_number year_start days_since_zero days_until_zero days_of_months
 first_of_3 = refl
 
--- a second of year 3 or later lies further behind the first of year 2 than the longest step back
+-- a second of year 3 or later lies further after the first of year 2 than the longest step back
 late : (c : CivilDateTime) → pos 3 ≤ℤ c.date.year → (year_2 +ℤ pos fold_limit) ≤ℤ wall_second c
 late c from = let begun = (year_reached c (pos 3)).0 from in omega (arith, ints, first_of_3)
 

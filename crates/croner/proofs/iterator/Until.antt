@@ -37,7 +37,7 @@ gives_none old until = record {
       ordered = λ k j d before within. absurd (omega (arith, within));
       counts = All-nil (IsLeft old);
       either = λ i left. inr left;
-      behind = λ i left. All-nil (λ x. Precedes old.direction x i);
+      later = λ i left. All-nil (λ x. Precedes old.direction x i);
       within = λ i left. left;
     };
     calm = λ calm. calm;

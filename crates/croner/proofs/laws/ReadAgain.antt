@@ -84,7 +84,7 @@ plainly bs s e b l = record { cs = bs; scalars = s; spells = e; begins = b; ends
 abbrev whole : Bool → Bool → List ℕ → List ℕ
 whole needs_seconds needs_year name = cond needs_seconds (codes "0 ") [] ++ name ++ cond needs_year (codes " *") []
 
--- what holds with and without a zero before it and a star behind it
+-- what holds with and without a zero before it and a star after it
 each_way : (P : Bool → Bool → Type 0) → P true true → P true false → P false true → P false false → (a b : Bool) → P a b
 each_way P x y z w true true = x
 each_way P x y z w true false = y

@@ -53,9 +53,9 @@ the_first_of_two : outcome default_settings (codes "0 24 * 13 *") ≡ Err (Compo
 unfolding trim_start trim_end chars lib.Utf8.encode
 the_first_of_two = refl
 
-a_letter_behind_a_number_too_high : outcome default_settings (codes "60 * * * MONDAY") ≡ Err (Illegal fields.Weekday)
+a_letter_after_a_number_too_high : outcome default_settings (codes "60 * * * MONDAY") ≡ Err (Illegal fields.Weekday)
 unfolding trim_start trim_end chars lib.Utf8.encode
-a_letter_behind_a_number_too_high = refl
+a_letter_after_a_number_too_high = refl
 
 a_question_mark_in_hours : outcome default_settings (codes "* ? * * *") ≡ Err (Illegal fields.Hours)
 unfolding trim_start trim_end chars lib.Utf8.encode
@@ -81,19 +81,19 @@ the_seventh_without_a_year : counted_word without_year (codes "0 0 0 1 1 * 2024"
 unfolding chars lib.Utf8.encode
 the_seventh_without_a_year = refl
 
-a_part_behind_two : outcome default_settings (codes "5,10,99 * * * *") ≡ Err (Component fields.Minutes 2)
+a_part_after_two : outcome default_settings (codes "5,10,99 * * * *") ≡ Err (Component fields.Minutes 2)
 unfolding trim_start trim_end chars lib.Utf8.encode
-a_part_behind_two = refl
+a_part_after_two = refl
 
 -- an empty part is read, and counts
-a_part_behind_an_empty_one : outcome default_settings (codes "* 5,,24 * * MON,*") ≡ Err (Component fields.Hours 2)
+a_part_after_an_empty_one : outcome default_settings (codes "* 5,,24 * * MON,*") ≡ Err (Component fields.Hours 2)
 unfolding trim_start trim_end chars lib.Utf8.encode
-a_part_behind_an_empty_one = refl
+a_part_after_an_empty_one = refl
 
 -- a star is read alone in its field, and in no list
-a_star_behind_a_number : outcome default_settings (codes "5,* * * * *") ≡ Err (Component fields.Minutes 1)
+a_star_after_a_number : outcome default_settings (codes "5,* * * * *") ≡ Err (Component fields.Minutes 1)
 unfolding trim_start trim_end chars lib.Utf8.encode
-a_star_behind_a_number = refl
+a_star_after_a_number = refl
 
 -- ---- the place of a wrong count: a whole word
 
@@ -135,9 +135,9 @@ the_digit_in_front_of_it p =
     let e : 3 ≡ 4 = ap length (p.first refl) in
     absurd (omega (arith, e))
 
-the_letter_behind_a_name : IsIllegal (codes "0 9 * * monday") fields.Weekday 11 12
+the_letter_after_a_name : IsIllegal (codes "0 9 * * monday") fields.Weekday 11 12
 unfolding chars lib.Utf8.encode
-the_letter_behind_a_name = record { one = refl; first = λ _. refl }
+the_letter_after_a_name = record { one = refl; first = λ _. refl }
 
 a_letter_of_a_name : IsIllegal (codes "0 9 * * monday") fields.Weekday 8 9 → ⊥
 unfolding chars lib.Utf8.encode
@@ -146,9 +146,9 @@ a_letter_of_a_name p =
     absurd (omega (arith, e))
 
 -- a name whose first letter its field takes by itself
-behind_a_name_with_w : IsIllegal (codes "0 0 WED; * *") fields.DayOfMonth 7 8
+after_a_name_with_w : IsIllegal (codes "0 0 WED; * *") fields.DayOfMonth 7 8
 unfolding chars lib.Utf8.encode
-behind_a_name_with_w = record { one = refl; first = λ _. refl }
+after_a_name_with_w = record { one = refl; first = λ _. refl }
 
 -- a name that overlaps another is none
 a_letter_of_two_names : from_illegal fields.Month (codes "JANOV") ≡ codes "OV"

@@ -15,7 +15,7 @@ use Rattle.croner.proofs.parser.Expanded.{no_at_in}
 use Rattle.croner.proofs.parser.Trimmed.{begins_white, trim_trims}
 use Rattle.croner.proofs.parser.WordLists.{are_words, gap_more, words_are}
 
--- ---- words behind one another
+-- ---- words after one another
 
 white_scalar : (c : ℕ) → is_whitespace c ≡ true → c < 55296
 white_scalar c h = grind (arith, nat_tests)
@@ -35,7 +35,7 @@ follows_on (x ∷ a) b f g =
     let k = f.1 (omega arith) in
     (f.0 ++ b, λ _. (k.0, k.1, ap (λ xs. xs ++ b) k.2 ∙ append_assoc (encode_utf8 k.0) f.0 b, k.3))
 
--- a text behind another one has its words behind those of the other, where nothing or white space begins it
+-- a text after another one has its words after those of the other, where nothing or white space begins it
 pub words_on : (a b : List ℕ) (ws vs : List (List ℕ)) → AreWords a ws → AreWords b vs → Follows b → AreWords (a ++ b) (ws ++ vs)
 words_on a b [] vs h k f = gap_more a b vs h k
 words_on a b (w ∷ ws) vs h k f =
@@ -138,9 +138,9 @@ dropped (c ∷ cs) =
     (c ∷ k.0, ap (λ xs. c ∷ xs) (k.1 ∙ ap (λ xs. xs ++ k.0) none), (ap not parts.0, k.2)))
     (λ _. (k.0, ap (λ xs. c ∷ xs) k.1, k.2))
 
-scalars_behind : (ds es : List ℕ) → all_scalars (ds ++ es) ≡ true → all_scalars es ≡ true
-scalars_behind [] es h = h
-scalars_behind (d ∷ ds) es h = scalars_behind ds es (and_parts (scalar d) (all_scalars (ds ++ es)) h).1
+scalars_after : (ds es : List ℕ) → all_scalars (ds ++ es) ≡ true → all_scalars es ≡ true
+scalars_after [] es h = h
+scalars_after (d ∷ ds) es h = scalars_after ds es (and_parts (scalar d) (all_scalars (ds ++ es)) h).1
 
 -- what stands around a text that is trimmed
 record Around (text : List ℕ) : Type 0 where
@@ -157,7 +157,7 @@ around text utf8 =
     let one = skipped cs in
     let ds = skip_leading_whitespace cs in
     let two = dropped ds in
-    let scalars : all_scalars ds ≡ true = scalars_behind one.0 ds (ap all_scalars (sym one.1) ∙ scalars-chars text utf8) in
+    let scalars : all_scalars ds ≡ true = scalars_after one.0 ds (ap all_scalars (sym one.1) ∙ scalars-chars text utf8) in
     let es = drop_trailing_whitespace ds in
     let trimmed : trim text ≡ encode_utf8_all es = ap (λ xs. encode_utf8_all (drop_trailing_whitespace xs)) (chars-encodes ds scalars) in
     record {

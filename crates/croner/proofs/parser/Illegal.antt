@@ -8,22 +8,22 @@ use Rattle.std.specs.Str.{IsUtf8, IsCharBoundary}
 use Rattle.croner.specs.declared.parser.fault.PatternField.{PatternField}
 use Rattle.croner.specs.declared.parser.fault.PatternField.TheVariants as fields
 use Rattle.croner.specs.parser.Cut.{Piece, name_of}
-use Rattle.croner.specs.parser.Faults.{behind_name, from_illegal}
+use Rattle.croner.specs.parser.Faults.{after_name, from_illegal}
 use Rattle.croner.specs.parser.Grammar.{is_list_character, takes}
-use Rattle.croner.specs.Private.parser.Steps.{HasNoName, IsBehindLegal, IsBehindName}
+use Rattle.croner.specs.Private.parser.Steps.{HasNoName, IsAfterLegal, IsAfterName}
 
 pub named : (field : PatternField) (text : List ℕ) (name : Piece) → name_of (take 3 text) ≡ Some name → 3 ≤ length text → from_illegal field text ≡ from_illegal field (drop 3 text)
 named field [] name e long = absurd (omega (arith, long))
 named field (a ∷ []) name e long = absurd (omega (arith, long))
 named field (a ∷ b ∷ []) name e long = absurd (omega (arith, long))
 named field (a ∷ b ∷ c ∷ rest) name e long =
-    ap (λ p. behind_name p (cond (takes field a) (from_illegal field (b ∷ c ∷ rest)) (a ∷ b ∷ c ∷ rest)) (from_illegal field rest)) e
+    ap (λ p. after_name p (cond (takes field a) (from_illegal field (b ∷ c ∷ rest)) (a ∷ b ∷ c ∷ rest)) (from_illegal field rest)) e
 
 pub unnamed : (field : PatternField) (a : ℕ) (rest : List ℕ) → HasNoName (a ∷ rest) → from_illegal field (a ∷ rest) ≡ cond (takes field a) (from_illegal field rest) (a ∷ rest)
 unnamed field a [] h = refl
 unnamed field a (b ∷ []) h = refl
 unnamed field a (b ∷ c ∷ rest) h =
-    ap (λ p. behind_name p (cond (takes field a) (from_illegal field (b ∷ c ∷ rest)) (a ∷ b ∷ c ∷ rest)) (from_illegal field rest)) h
+    ap (λ p. after_name p (cond (takes field a) (from_illegal field (b ∷ c ∷ rest)) (a ∷ b ∷ c ∷ rest)) (from_illegal field rest)) h
 
 high_list : (c : ℕ) → 128 ≤ c → is_list_character c ≡ false
 high_list c h = grind (arith, nat_tests)
@@ -44,18 +44,18 @@ taken_small field c h = elim (cases_lt c 128) [
   | inr high ↦ absurd (false≢true (sym (high_taken field c high) ∙ h))
 ]
 
-pub boundary_behind : (field : PatternField) (text : List ℕ) → IsUtf8 text → 0 < length text → takes field (get_or text 0 0) ≡ true → IsCharBoundary text 1
-boundary_behind field text utf8 some h = IsCharBoundary-after_ascii text 0 utf8 some (taken_small field (get_or text 0 0) h)
+pub boundary_after : (field : PatternField) (text : List ℕ) → IsUtf8 text → 0 < length text → takes field (get_or text 0 0) ≡ true → IsCharBoundary text 1
+boundary_after field text utf8 some h = IsCharBoundary-after_ascii text 0 utf8 some (taken_small field (get_or text 0 0) h)
 
 -- ---- one step
 
-pub name_legal : (field : PatternField) (text rest : List ℕ) → IsBehindName text rest → IsBehindLegal field text rest
+pub name_legal : (field : PatternField) (text rest : List ℕ) → IsAfterName text rest → IsAfterLegal field text rest
 name_legal field text rest h = record {
   shorter = omega (arith, ap length h.back, length-drop 3 text, h.some);
   same = named field text h.name h.begins h.some ∙ ap (from_illegal field) (sym h.back);
 }
 
-pub character_legal : (field : PatternField) (text : List ℕ) → 0 < length text → HasNoName text → takes field (get_or text 0 0) ≡ true → IsBehindLegal field text (drop 1 text)
+pub character_legal : (field : PatternField) (text : List ℕ) → 0 < length text → HasNoName text → takes field (get_or text 0 0) ≡ true → IsAfterLegal field text (drop 1 text)
 character_legal field [] some none h = absurd (omega (arith, some))
 character_legal field (a ∷ rest) some none h = record {
   shorter = omega arith;

@@ -15,7 +15,7 @@ use Rattle.croner.specs.parser.Cut.{is_lost, shown, replaced}
 use Rattle.croner.specs.parser.Faults.{from_illegal}
 use Rattle.croner.specs.parser.Grammar.{is_list_character, is_replaced_legal, is_word_legal, takes, takes_all, without_plus, without_sign}
 use Rattle.croner.specs.Private.parser.Places.{IsIllegalFrom}
-use Rattle.croner.specs.Private.parser.Steps.{behind, HasNoName}
+use Rattle.croner.specs.Private.parser.Steps.{with_front, HasNoName}
 use Rattle.croner.proofs.parser.Cuts.{names_of}
 use Rattle.croner.proofs.parser.Expanded.{is_digit}
 use Rattle.croner.proofs.parser.Illegal.{named, unnamed}
@@ -66,7 +66,7 @@ legal_char quartz after_dash field c word none again e = elim (cases_Bool (takes
   | inl taken ↦
       let k = again (eqb c 45) (sym (unnamed field c word none ∙ cond-true (takes field c) (from_illegal field word) (c ∷ word) taken) ∙ e) in (
         c ∷ k.0,
-        replaced_single quartz after_dash c word none (taken_kept field c taken) ∙ ap (behind (c ∷ [])) k.1,
+        replaced_single quartz after_dash c word none (taken_kept field c taken) ∙ ap (with_front (c ∷ [])) k.1,
         and_from (takes field c) (takes_all field k.0) taken k.2,
       )
   | inr other ↦
@@ -86,7 +86,7 @@ legal_word quartz after_dash field (a ∷ b ∷ c ∷ word) e = elim (names_of (
       let number = is_number quartz after_dash p (a ∷ b ∷ c ∷ []) some.2 some.3 refl in
       let k = legal_word quartz false field word (sym (named field (a ∷ b ∷ c ∷ word) p some.1 (omega arith)) ∙ e) in (
         shown quartz after_dash p ++ k.0,
-        name_first quartz after_dash a b c word p some.1 ∙ ap (λ d. behind (shown quartz after_dash p) (replaced quartz d word)) number.no_dash ∙ ap (behind (shown quartz after_dash p)) k.1,
+        name_first quartz after_dash a b c word p some.1 ∙ ap (λ d. with_front (shown quartz after_dash p) (replaced quartz d word)) number.no_dash ∙ ap (with_front (shown quartz after_dash p)) k.1,
         list_all-append (takes field) (shown quartz after_dash p) k.0 ∙ and_from (takes_all field (shown quartz after_dash p)) (takes_all field k.0) (digits_taken field (shown quartz after_dash p) number.digits) k.2,
       )
 ]
@@ -112,7 +112,7 @@ weekday_legal quartz (c ∷ cs) e = elim (cases_Bool (eqb c 43)) [
       let k = legal_word quartz (eqb c 45) fields.Weekday cs (ap (from_illegal fields.Weekday) (sym (cond-true (eqb c 43) cs (c ∷ cs) is_so)) ∙ e) in
       let is_plus : c ≡ 43 = eqb-true c 43 is_so in
       let whole : replaced quartz false (c ∷ cs) ≡ Some (c ∷ k.0) =
-      replaced_single quartz false c cs (first (c ∷ cs) (ap is_capital is_plus)) (ap is_lost is_plus) ∙ ap (behind (c ∷ [])) k.1 in
+      replaced_single quartz false c cs (first (c ∷ cs) (ap is_capital is_plus)) (ap is_lost is_plus) ∙ ap (with_front (c ∷ [])) k.1 in
       ap (is_replaced_legal fields.Weekday) whole ∙ ap (takes_all fields.Weekday) (cond-true (eqb c 43) k.0 (c ∷ k.0) is_so) ∙ k.2
   | inr is_not ↦
       let k = legal_word quartz false fields.Weekday (c ∷ cs) (ap (from_illegal fields.Weekday) (sym (cond-false (eqb c 43) cs (c ∷ cs) is_not)) ∙ e) in

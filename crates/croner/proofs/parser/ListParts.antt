@@ -52,25 +52,25 @@ unread_some f (part ∷ parts) h =
 
 -- ---- a part of the list's text
 
-behind_first : (c : ℕ) (k : ℕ) (ps : List (List ℕ)) → get_or (onto_first c ps) (suc k) [] ≡ get_or ps (suc k) []
-behind_first c k [] = refl
-behind_first c k (p ∷ ps) = refl
+beyond_first : (c : ℕ) (k : ℕ) (ps : List (List ℕ)) → get_or (onto_first c ps) (suc k) [] ≡ get_or ps (suc k) []
+beyond_first c k [] = refl
+beyond_first c k (p ∷ ps) = refl
 
-part_behind : (c : ℕ) (cs : List ℕ) (k : ℕ) → eqb c 44 ≡ true → 0 < length (get_or ([] ∷ pieces_at 44 cs) k []) → ((n : ℕ) → 0 < length (get_or (pieces_at 44 cs) n []) → has_part n cs ≡ true) → has_part k (c ∷ cs) ≡ true
-part_behind c cs zero is_so h again = absurd (omega (arith, h))
-part_behind c cs (suc n) is_so h again = cond-true (eqb c 44) (has_part n cs) (has_part (suc n) cs) is_so ∙ again n h
+part_after : (c : ℕ) (cs : List ℕ) (k : ℕ) → eqb c 44 ≡ true → 0 < length (get_or ([] ∷ pieces_at 44 cs) k []) → ((n : ℕ) → 0 < length (get_or (pieces_at 44 cs) n []) → has_part n cs ≡ true) → has_part k (c ∷ cs) ≡ true
+part_after c cs zero is_so h again = absurd (omega (arith, h))
+part_after c cs (suc n) is_so h again = cond-true (eqb c 44) (has_part n cs) (has_part (suc n) cs) is_so ∙ again n h
 
 part_inside : (c : ℕ) (cs : List ℕ) (k : ℕ) → eqb c 44 ≡ false → 0 < length (get_or (onto_first c (pieces_at 44 cs)) k []) → ((n : ℕ) → 0 < length (get_or (pieces_at 44 cs) n []) → has_part n cs ≡ true) → has_part k (c ∷ cs) ≡ true
 part_inside c cs zero is_not h again = ap not is_not
 part_inside c cs (suc n) is_not h again =
-    cond-false (eqb c 44) (has_part n cs) (has_part (suc n) cs) is_not ∙ again (suc n) (subst (λ p. 0 < length p) (behind_first c n (pieces_at 44 cs)) h)
+    cond-false (eqb c 44) (has_part n cs) (has_part (suc n) cs) is_not ∙ again (suc n) (subst (λ p. 0 < length p) (beyond_first c n (pieces_at 44 cs)) h)
 
 pub part_there : (text : List ℕ) (k : ℕ) → 0 < length (get_or (pieces_at 44 text) k []) → has_part k text ≡ true
 part_there [] zero h = absurd (omega (arith, h))
 part_there [] (suc k) h = absurd (omega (arith, h))
 part_there (c ∷ cs) k h = elim (cases_Bool (eqb c 44)) [
   | inl is_so ↦
-      part_behind c cs k is_so (subst (λ (ps : List (List ℕ)). 0 < length (get_or ps k [])) (slice_split-cons_yes (λ b. eqb b 44) c cs is_so) h) (part_there cs)
+      part_after c cs k is_so (subst (λ (ps : List (List ℕ)). 0 < length (get_or ps k [])) (slice_split-cons_yes (λ b. eqb b 44) c cs is_so) h) (part_there cs)
   | inr is_not ↦
       part_inside c cs k is_not (subst (λ (ps : List (List ℕ)). 0 < length (get_or ps k [])) (slice_split-cons_no (λ b. eqb b 44) c cs is_not) h) (part_there cs)
 ]
@@ -83,7 +83,7 @@ is_no_comma b = not (eqb b 44)
 no_comma : (b : ℕ) → is_no_comma b ≡ true → eqb b 44 ≡ false
 no_comma b h = grind (arith, nat_tests, h)
 
--- a part of what stands behind such bytes is one of the whole
+-- a part of what stands after such bytes is one of the whole
 part_on : (xs rest : List ℕ) (k : ℕ) → list_all is_no_comma xs ≡ true → has_part k rest ≡ true → has_part k (xs ++ rest) ≡ true
 part_on [] rest k h p = p
 part_on (x ∷ xs) rest zero h p = (and_parts (is_no_comma x) (list_all is_no_comma xs) h).0
@@ -91,7 +91,7 @@ part_on (x ∷ xs) rest (suc k) h p =
     let parts = and_parts (is_no_comma x) (list_all is_no_comma xs) h in
     cond-false (eqb x 44) (has_part k (xs ++ rest)) (has_part (suc k) (xs ++ rest)) (no_comma x parts.0) ∙ part_on xs rest (suc k) parts.1 p
 
--- and the first part has such bytes, or it is a part of what stands behind them
+-- and the first part has such bytes, or it is a part of what stands after them
 pub part_off : (xs rest : List ℕ) (k : ℕ) → list_all is_no_comma xs ≡ true → has_part k (xs ++ rest) ≡ true → (k ≡ 0) ⊎ (has_part k rest ≡ true)
 part_off xs rest zero h p = inl refl
 part_off [] rest (suc k) h p = inr p
@@ -107,7 +107,7 @@ first_part (x ∷ xs) rest some h = (and_parts (is_no_comma x) (list_all is_no_c
 part_swapped : (xs ys rest now : List ℕ) (k : ℕ) → list_all is_no_comma xs ≡ true → 0 < length ys → list_all is_no_comma ys ≡ true → (has_part k now ≡ true → has_part k rest ≡ true) → has_part k (xs ++ now) ≡ true → has_part k (ys ++ rest) ≡ true
 part_swapped xs ys rest now k h some g again p = elim (part_off xs now k h p) [
   | inl front ↦ subst (λ n. has_part n (ys ++ rest) ≡ true) (sym front) (first_part ys rest some g)
-  | inr behind ↦ part_on ys rest k g (again behind)
+  | inr after ↦ part_on ys rest k g (again after)
 ]
 
 digit_no_comma : (b : ℕ) → is_digit b ≡ true → is_no_comma b ≡ true

@@ -9,7 +9,7 @@ use Rattle.std.specs.Char.{encode_utf8}
 use Rattle.std.specs.List.{list_all}
 use Rattle.std.specs.Str.{IsUtf8, IsCharBoundary}
 use Rattle.croner.specs.parser.Cut.{Piece, month, weekday, single, months, weekdays, is_lost, place_of, name_of, cut_of, onto, alone, named, decimal_of, weekday_number, shown, is_dash, expansion, replaced}
-use Rattle.croner.specs.Private.parser.Steps.{behind, has_dash, HasNoName, IsShown, Advances}
+use Rattle.croner.specs.Private.parser.Steps.{with_front, has_dash, HasNoName, IsShown, Advances}
 use Rattle.croner.proofs.parser.Cuts.{place_of-at, names_of}
 
 -- ---- what is shown for a name
@@ -29,17 +29,17 @@ cut_named (a ∷ []) p h e = absurd (omega (arith, h))
 cut_named (a ∷ b ∷ []) p h e = absurd (omega (arith, h))
 cut_named (a ∷ b ∷ c ∷ rest) p h e = ap (λ o. named o (alone a (cut_of (b ∷ c ∷ rest))) (cut_of rest)) e
 
-pub shown_onto : (quartz after_dash : Bool) (p : Piece) (o : Option (List Piece)) → option_map (expansion quartz after_dash) (onto p o) ≡ behind (shown quartz after_dash p) (option_map (expansion quartz (is_dash p)) o)
+pub shown_onto : (quartz after_dash : Bool) (p : Piece) (o : Option (List Piece)) → option_map (expansion quartz after_dash) (onto p o) ≡ with_front (shown quartz after_dash p) (option_map (expansion quartz (is_dash p)) o)
 shown_onto quartz after_dash p None = refl
 shown_onto quartz after_dash p (Some ps) = refl
 
-pub behind_behind : (a b : List ℕ) (o : Option (List ℕ)) → behind a (behind b o) ≡ behind (a ++ b) o
-behind_behind a b None = refl
-behind_behind a b (Some t) = ap Some (sym (append_assoc a b t))
+pub with_front-append : (a b : List ℕ) (o : Option (List ℕ)) → with_front a (with_front b o) ≡ with_front (a ++ b) o
+with_front-append a b None = refl
+with_front-append a b (Some t) = ap Some (sym (append_assoc a b t))
 
-pub behind-nil : (o : Option (List ℕ)) → behind [] o ≡ o
-behind-nil None = refl
-behind-nil (Some t) = refl
+pub with_front-nil : (o : Option (List ℕ)) → with_front [] o ≡ o
+with_front-nil None = refl
+with_front-nil (Some t) = refl
 
 -- every name has three letters, and they are ASCII
 abbrev is_good : List ℕ → Bool
@@ -76,7 +76,7 @@ pub no_low_text : (text : List ℕ) → leb 65 (get_or text 0 0) ≡ false → H
 no_low_text [] h = no_low_name [] h
 no_low_text (c ∷ t) h = no_low_name (take 3 (c ∷ t)) h
 
--- a text has a name at its front only where it may be cut behind it
+-- a text has a name at its front only where it may be cut after it
 pub no_name_between : (text : List ℕ) → IsUtf8 text → (IsCharBoundary text 3 → ⊥) → HasNoName text
 no_name_between text utf8 h = elim (names_of (take 3 text)) [
   | inl none ↦ none
@@ -90,15 +90,15 @@ no_name_between text utf8 h = elim (names_of (take 3 text)) [
       absurd (h (IsCharBoundary-after_ascii text 2 utf8 (omega (arith, long)) third))
 ]
 
--- what stands for a name goes behind what was written
+-- what stands for a name goes after what was written
 pub advance_name : (quartz after_dash : Bool) (text rest written now : List ℕ) (number : ℕ) → IsUtf8 text → IsCharBoundary text 3 → rest ≡ drop 3 text → IsShown quartz after_dash (take 3 text) number → now ≡ written ++ decimal_of number → Advances quartz after_dash text written now rest
 advance_name quartz after_dash text rest written now number utf8 boundary is_rest s e =
     let long : 3 ≤ length text = boundary.0 in
     let p = s.0 in
     let o = replaced quartz (is_dash p) (drop 3 text) in
-    let whole : replaced quartz after_dash text ≡ behind (decimal_of number) (replaced quartz false (drop 3 text)) =
+    let whole : replaced quartz after_dash text ≡ with_front (decimal_of number) (replaced quartz false (drop 3 text)) =
     ap (option_map (expansion quartz after_dash)) (cut_named text p long s.1) ∙ shown_onto quartz after_dash p (cut_of (drop 3 text))
-    ∙ ap (λ d. behind d o) s.2 ∙ ap (λ b. behind (decimal_of number) (replaced quartz b (drop 3 text))) s.3 in
+    ∙ ap (λ d. with_front d o) s.2 ∙ ap (λ b. with_front (decimal_of number) (replaced quartz b (drop 3 text))) s.3 in
     let parts = and_parts (eqb (length (take 3 text)) 3) _ (good_names (take 3 text) p s.1) in
     let letter = leb-true 65 _ (and_parts (leb 65 (get_or (take 3 text) 0 0)) _ (and_parts (ltb (get_or (take 3 text) 0 0) 128) _ parts.1).1).0 in
     let no_dash : has_dash text ≡ false = ne_eqb (get_or text 0 0) 45 (λ x. omega (arith, letter, get_or-take 3 text 0 0 (omega arith), x)) in
@@ -106,7 +106,7 @@ advance_name quartz after_dash text rest written now number utf8 boundary is_res
       shorter = omega (arith, ap length is_rest, length-drop 3 text);
       is_text = rw is_rest (IsUtf8-drop text 3 utf8 boundary);
       same =
-          ap (behind written) whole ∙ behind_behind written (decimal_of number) (replaced quartz false (drop 3 text)) ∙ rw (e, is_rest, no_dash) refl;
+          ap (with_front written) whole ∙ with_front-append written (decimal_of number) (replaced quartz false (drop 3 text)) ∙ rw (e, is_rest, no_dash) refl;
     }
 
 -- ---- a character at the front
@@ -120,7 +120,7 @@ pub replaced_lost : (quartz after_dash : Bool) (c : ℕ) (t : List ℕ) → HasN
 replaced_lost quartz after_dash c t h lost =
     ap (option_map (expansion quartz after_dash)) (cut_unnamed c t h ∙ ap (λ b. cond b None (onto (single c) (cut_of t))) lost)
 
-pub replaced_single : (quartz after_dash : Bool) (c : ℕ) (t : List ℕ) → HasNoName (c ∷ t) → is_lost c ≡ false → replaced quartz after_dash (c ∷ t) ≡ behind (c ∷ []) (replaced quartz (eqb c 45) t)
+pub replaced_single : (quartz after_dash : Bool) (c : ℕ) (t : List ℕ) → HasNoName (c ∷ t) → is_lost c ≡ false → replaced quartz after_dash (c ∷ t) ≡ with_front (c ∷ []) (replaced quartz (eqb c 45) t)
 replaced_single quartz after_dash c t h kept =
     ap (option_map (expansion quartz after_dash)) (cut_unnamed c t h ∙ ap (λ b. cond b None (onto (single c) (cut_of t))) kept)
     ∙ shown_onto quartz after_dash (single c) (cut_of t)
@@ -142,18 +142,18 @@ high_kept c h = (grind (arith, nat_tests), grind (arith, nat_tests))
 abbrev pub AreHigh : List ℕ → Type 0
 AreHigh bs = (k : ℕ) → k < length bs → 128 ≤ get_or bs k 0
 
-pub replaced_high : (quartz after_dash : Bool) (b : ℕ) (bs t : List ℕ) → AreHigh (b ∷ bs) → replaced quartz after_dash ((b ∷ bs) ++ t) ≡ behind (b ∷ bs) (replaced quartz false t)
+pub replaced_high : (quartz after_dash : Bool) (b : ℕ) (bs t : List ℕ) → AreHigh (b ∷ bs) → replaced quartz after_dash ((b ∷ bs) ++ t) ≡ with_front (b ∷ bs) (replaced quartz false t)
 replaced_high quartz after_dash b [] t h =
     let high = h 0 (omega arith) in
     let k = high_kept b high in
-    replaced_single quartz after_dash b t (high_no_name b t high) k.0 ∙ ap (λ d. behind (b ∷ []) (replaced quartz d t)) k.1
+    replaced_single quartz after_dash b t (high_no_name b t high) k.0 ∙ ap (λ d. with_front (b ∷ []) (replaced quartz d t)) k.1
 replaced_high quartz after_dash b (d ∷ bs) t h =
     let high = h 0 (omega arith) in
     let k = high_kept b high in
     replaced_single quartz after_dash b ((d ∷ bs) ++ t) (high_no_name b ((d ∷ bs) ++ t) high) k.0
-    ∙ ap (λ x. behind (b ∷ []) (replaced quartz x ((d ∷ bs) ++ t))) k.1
-    ∙ ap (behind (b ∷ [])) (replaced_high quartz false d bs t (λ k l. h (suc k) (omega (arith, l))))
-    ∙ behind_behind (b ∷ []) (d ∷ bs) (replaced quartz false t)
+    ∙ ap (λ x. with_front (b ∷ []) (replaced quartz x ((d ∷ bs) ++ t))) k.1
+    ∙ ap (with_front (b ∷ [])) (replaced_high quartz false d bs t (λ k l. h (suc k) (omega (arith, l))))
+    ∙ with_front-append (b ∷ []) (d ∷ bs) (replaced quartz false t)
 
 -- ---- any character
 
@@ -161,7 +161,7 @@ advance_ascii : (quartz after_dash : Bool) (c : ℕ) (rest written : List ℕ) �
 advance_ascii quartz after_dash c rest written utf8 h kept = record {
   shorter = omega arith;
   is_text = utf8;
-  same = ap (behind written) (replaced_single quartz after_dash c rest h kept) ∙ behind_behind written (c ∷ []) (replaced quartz (eqb c 45) rest);
+  same = ap (with_front written) (replaced_single quartz after_dash c rest h kept) ∙ with_front-append written (c ∷ []) (replaced quartz (eqb c 45) rest);
 }
 
 advance_high : (quartz after_dash : Bool) (bs rest written : List ℕ) → IsUtf8 rest → 0 < length bs → AreHigh bs → Advances quartz after_dash (bs ++ rest) written (written ++ bs) rest
@@ -172,8 +172,8 @@ advance_high quartz after_dash (b ∷ bs) rest written utf8 some h =
       shorter = omega (arith, length-append bs rest);
       is_text = utf8;
       same =
-          ap (behind written) (replaced_high quartz after_dash b bs rest h) ∙ behind_behind written (b ∷ bs) (replaced quartz false rest)
-          ∙ ap (λ d. behind (written ++ b ∷ bs) (replaced quartz d rest)) (sym k.1);
+          ap (with_front written) (replaced_high quartz after_dash b bs rest h) ∙ with_front-append written (b ∷ bs) (replaced quartz false rest)
+          ∙ ap (λ d. with_front (written ++ b ∷ bs) (replaced quartz d rest)) (sym k.1);
     }
 
 pub high_bytes : (c : ℕ) → 128 ≤ c → AreHigh (encode_utf8 c)
@@ -182,7 +182,7 @@ high_bytes c h = λ k l. elim (cases_lt (get_or (encode_utf8 c) k 0) 128) [
   | inr high ↦ high
 ]
 
--- the character goes behind what was written
+-- the character goes after what was written
 pub advance_char : (quartz after_dash : Bool) (text rest written now : List ℕ) (c : ℕ) → IsUtf8 text → HasNoName text → is_lost c ≡ false → text ≡ encode_utf8 c ++ rest → now ≡ written ++ encode_utf8 c → Advances quartz after_dash text written now rest
 advance_char quartz after_dash text rest written now c utf8 h kept e f =
     let is_rest : IsUtf8 rest = IsUtf8-past_char text rest c utf8 e in

@@ -34,9 +34,9 @@ comma_at text = position_or_len (λ b. eqb b 44) text
 whole_free : (text : List ℕ) → comma_at text ≡ length text → contains_byte 44 text ≡ false
 whole_free text e = free_text text (λ k l. fails_before_first (λ b. eqb b 44) text k 0 (omega (arith, l, e)))
 
--- a text is what stands in front of its first comma, the comma, and what stands behind it
-record IsCutAt (text front behind : List ℕ) : Type 0 where
-  spells : text ≡ front ++ 44 ∷ behind
+-- a text is what stands in front of its first comma, the comma, and what stands after it
+record IsCutAt (text front after : List ℕ) : Type 0 where
+  spells : text ≡ front ++ 44 ∷ after
   free : contains_byte 44 front ≡ false
 
 cut_at : (text : List ℕ) → comma_at text < length text → IsCutAt text (before_first (λ b. eqb b 44) text) (after_first (λ b. eqb b 44) text)
@@ -78,42 +78,42 @@ no_other_part text k e other h =
       | inr none ↦ false≢true none
     ]
 
-comma_utf8 : (behind : List ℕ) → IsUtf8 behind → IsUtf8 (44 ∷ behind)
+comma_utf8 : (after : List ℕ) → IsUtf8 after → IsUtf8 (44 ∷ after)
 unfolding lib.Utf8.encode
-comma_utf8 behind utf8 = (44 ∷ utf8.0, (utf8.1.0, ap (λ x. 44 ∷ x) utf8.1.1))
+comma_utf8 after utf8 = (44 ∷ utf8.0, (utf8.1.0, ap (λ x. 44 ∷ x) utf8.1.1))
 
-no_first : (front behind : List ℕ) → has_part 0 (front ++ 44 ∷ behind) ≡ true → 0 < length front
-no_first [] behind h = absurd (false≢true h)
-no_first (c ∷ cs) behind h = omega arith
+no_first : (front after : List ℕ) → has_part 0 (front ++ 44 ∷ after) ≡ true → 0 < length front
+no_first [] after h = absurd (false≢true h)
+no_first (c ∷ cs) after h = omega arith
 
-pub first_part : (text front behind : List ℕ) → IsUtf8 front → IsUtf8 behind → comma_at text < length text → front ≡ before_first (λ b. eqb b 44) text → behind ≡ after_first (λ b. eqb b 44) text → has_part 0 text ≡ true → IsPartOf text 0 0 front
-first_part text front behind u v l e f h =
-    let cut : IsCutAt text front behind = rw (e, f) (cut_at text l) in
+pub first_part : (text front after : List ℕ) → IsUtf8 front → IsUtf8 after → comma_at text < length text → front ≡ before_first (λ b. eqb b 44) text → after ≡ after_first (λ b. eqb b 44) text → has_part 0 text ≡ true → IsPartOf text 0 0 front
+first_part text front after u v l e f h =
+    let cut : IsCutAt text front after = rw (e, f) (cut_at text l) in
     record {
       is_piece = record {
         front = [];
-        back = 44 ∷ behind;
+        back = 44 ∷ after;
         spells = cut.spells;
         its_start = refl;
         its_end = refl;
-        some = no_first front behind (ap (has_part 0) (sym cut.spells) ∙ h);
+        some = no_first front after (ap (has_part 0) (sym cut.spells) ∙ h);
         piece_utf8 = u;
-        back_utf8 = comma_utf8 behind v;
+        back_utf8 = comma_utf8 after v;
       };
       one = cut.free;
       its_part = refl;
     }
 
-behind_comma : (front behind : List ℕ) (k : ℕ) → contains_byte 44 front ≡ false → has_part (suc k) (front ++ 44 ∷ behind) ≡ true → has_part k behind ≡ true
-behind_comma front behind k free h = elim (part_off front (44 ∷ behind) (suc k) (free_all front free) h) [
+after_comma : (front after : List ℕ) (k : ℕ) → contains_byte 44 front ≡ false → has_part (suc k) (front ++ 44 ∷ after) ≡ true → has_part k after ≡ true
+after_comma front after k free h = elim (part_off front (44 ∷ after) (suc k) (free_all front free) h) [
   | inl first ↦ absurd (omega (arith, first))
   | inr there ↦ there
 ]
 
-pub part_behind_comma : (text front behind : List ℕ) (k n : ℕ) → comma_at text < length text → front ≡ before_first (λ b. eqb b 44) text → behind ≡ after_first (λ b. eqb b 44) text → k ≡ suc n → has_part k text ≡ true → has_part n behind ≡ true
-part_behind_comma text front behind k n l e f same h =
-    let cut : IsCutAt text front behind = rw (e, f) (cut_at text l) in
-    behind_comma front behind n cut.free (ap (has_part (suc n)) (sym cut.spells) ∙ ap (λ m. has_part m text) (sym same) ∙ h)
+pub part_after_comma : (text front after : List ℕ) (k n : ℕ) → comma_at text < length text → front ≡ before_first (λ b. eqb b 44) text → after ≡ after_first (λ b. eqb b 44) text → k ≡ suc n → has_part k text ≡ true → has_part n after ≡ true
+part_after_comma text front after k n l e f same h =
+    let cut : IsCutAt text front after = rw (e, f) (cut_at text l) in
+    after_comma front after n cut.free (ap (has_part (suc n)) (sym cut.spells) ∙ ap (λ m. has_part m text) (sym same) ∙ h)
 
 commas_on : (front rest : List ℕ) → contains_byte 44 front ≡ false → length (pieces_at 44 (front ++ rest)) ≡ length (pieces_at 44 rest)
 commas_on front rest h =
@@ -123,9 +123,9 @@ commas_on front rest h =
 one_more : (front : List ℕ) → length (pieces_at 44 (44 ∷ front)) ≡ length (pieces_at 44 front) + 1
 one_more front = ap length (slice_split-cons_yes (λ b. eqb b 44) 44 front refl) ∙ omega arith
 
--- a part of what stands behind the first comma is one of the text
-next_part : (text front behind piece : List ℕ) (k n a : ℕ) → IsCutAt text front behind → k ≡ suc n → IsPartOf behind n a piece → IsPartOf text k (length front + 1 + a) piece
-next_part text front behind piece k n a cut same p =
+-- a part of what stands after the first comma is one of the text
+next_part : (text front after piece : List ℕ) (k n a : ℕ) → IsCutAt text front after → k ≡ suc n → IsPartOf after n a piece → IsPartOf text k (length front + 1 + a) piece
+next_part text front after piece k n a cut same p =
     let q = p.is_piece in
     record {
       is_piece = record {
@@ -142,16 +142,16 @@ next_part text front behind piece k n a cut same p =
       its_part = omega (arith, commas_on front (44 ∷ q.front) cut.free, one_more q.front, p.its_part, same);
     }
 
-part_found : (o : Option Piece) (text front behind : List ℕ) (k n at on : ℕ) → IsCutAt text front behind → k ≡ suc n → on ≡ at + length front + 1 → IsSomeAnd o (λ p. IsPartIn behind on n p) → IsSomeAnd o (λ p. IsPartIn text at k p)
-part_found None text front behind k n at on cut same is_on h = h
-part_found (Some p) text front behind k n at on cut same is_on h =
-    (length front + 1 + h.0, omega (arith, h.1, is_on), next_part text front behind p.text.now k n h.0 cut same h.2)
+part_found : (o : Option Piece) (text front after : List ℕ) (k n at on : ℕ) → IsCutAt text front after → k ≡ suc n → on ≡ at + length front + 1 → IsSomeAnd o (λ p. IsPartIn after on n p) → IsSomeAnd o (λ p. IsPartIn text at k p)
+part_found None text front after k n at on cut same is_on h = h
+part_found (Some p) text front after k n at on cut same is_on h =
+    (length front + 1 + h.0, omega (arith, h.1, is_on), next_part text front after p.text.now k n h.0 cut same h.2)
 
-pub part_found_behind : (o : Option Piece) (text front behind : List ℕ) (k n at on : ℕ) → comma_at text < length text → front ≡ before_first (λ b. eqb b 44) text → behind ≡ after_first (λ b. eqb b 44) text → k ≡ suc n → on ≡ at + length front + 1 → IsSomeAnd o (λ p. IsPartIn behind on n p)
+pub part_found_after : (o : Option Piece) (text front after : List ℕ) (k n at on : ℕ) → comma_at text < length text → front ≡ before_first (λ b. eqb b 44) text → after ≡ after_first (λ b. eqb b 44) text → k ≡ suc n → on ≡ at + length front + 1 → IsSomeAnd o (λ p. IsPartIn after on n p)
     → IsSomeAnd o (λ p. IsPartIn text at k p)
-part_found_behind o text front behind k n at on l e f same is_on h =
-    let cut : IsCutAt text front behind = rw (e, f) (cut_at text l) in
-    part_found o text front behind k n at on cut same is_on h
+part_found_after o text front after k n at on l e f same is_on h =
+    let cut : IsCutAt text front after = rw (e, f) (cut_at text l) in
+    part_found o text front after k n at on cut same is_on h
 
 -- ---- the sign in front
 

@@ -12,10 +12,10 @@ use lib.Utf8.{scalar, low_scalar}
 use Rattle.croner.specs.parser.Cut.{Piece, month, weekday, single, months, weekdays, letters, is_lost, IsPiece, name_of, weekday_number, shown, is_dash, expansion, replaced}
 use Rattle.croner.specs.parser.Words.{AreWords, words}
 use Rattle.croner.specs.Private.parser.Places.{Follows}
-use Rattle.croner.specs.Private.parser.Steps.{behind, HasNoName}
+use Rattle.croner.specs.Private.parser.Steps.{with_front, HasNoName}
 use Rattle.croner.proofs.parser.Cuts.{names_of}
 use Rattle.croner.proofs.parser.Expanded.{is_digit, decimal_digits, decimal_some, weekday_small}
-use Rattle.croner.proofs.parser.Names.{behind-nil, behind_behind, cut_named, shown_onto, good_names, replaced_lost, replaced_single, replaced_high, high_bytes, AreHigh}
+use Rattle.croner.proofs.parser.Names.{with_front-nil, with_front-append, cut_named, shown_onto, good_names, replaced_lost, replaced_single, replaced_high, high_bytes, AreHigh}
 use Rattle.croner.proofs.parser.WordLists.{are_words, split_encodes, words_are}
 
 -- ---- the letters of a name
@@ -111,7 +111,7 @@ follows_small (b ∷ bs) f =
 high_no_dash : (c : ℕ) → 128 ≤ c → eqb c 45 ≡ false
 high_no_dash c h = grind (arith, nat_tests)
 
-high_kept : (quartz after_dash : Bool) (bs t : List ℕ) → 0 < length bs → AreHigh bs → replaced quartz after_dash (bs ++ t) ≡ behind bs (replaced quartz false t)
+high_kept : (quartz after_dash : Bool) (bs t : List ℕ) → 0 < length bs → AreHigh bs → replaced quartz after_dash (bs ++ t) ≡ with_front bs (replaced quartz false t)
 high_kept quartz after_dash [] t some h = absurd (omega (arith, some))
 high_kept quartz after_dash (b ∷ bs) t some h = replaced_high quartz after_dash b bs t h
 
@@ -121,20 +121,20 @@ lost_ascii c h = grind (arith, nat_tests)
 capital_ascii : (c : ℕ) → is_capital c ≡ true → c < 128
 capital_ascii c h = grind (arith, nat_tests)
 
-char_kept : (quartz after_dash : Bool) (c : ℕ) (t : List ℕ) → HasNoName (encode_utf8 c ++ t) → is_lost c ≡ false → replaced quartz after_dash (encode_utf8 c ++ t) ≡ behind (encode_utf8 c) (replaced quartz (eqb c 45) t)
+char_kept : (quartz after_dash : Bool) (c : ℕ) (t : List ℕ) → HasNoName (encode_utf8 c ++ t) → is_lost c ≡ false → replaced quartz after_dash (encode_utf8 c ++ t) ≡ with_front (encode_utf8 c) (replaced quartz (eqb c 45) t)
 char_kept quartz after_dash c t h kept = elim (cases_lt c 128) [
   | inl small ↦
       let one = encode_ascii c small in
       ap (λ x. replaced quartz after_dash (x ++ t)) one ∙ replaced_single quartz after_dash c t (subst (λ x. HasNoName (x ++ t)) one h) kept
-      ∙ ap (λ x. behind x (replaced quartz (eqb c 45) t)) (sym one)
+      ∙ ap (λ x. with_front x (replaced quartz (eqb c 45) t)) (sym one)
   | inr high ↦ high_kept quartz after_dash (encode_utf8 c) t (omega (arith, length-encode c, (len_utf8_bounds c).0)) (high_bytes c high)
-      ∙ ap (λ d. behind (encode_utf8 c) (replaced quartz d t)) (sym (high_no_dash c high))
+      ∙ ap (λ d. with_front (encode_utf8 c) (replaced quartz d t)) (sym (high_no_dash c high))
 ]
 
 -- white space says nothing of what stands in front of it
-pub white_first : (quartz after_dash : Bool) (c : ℕ) (t : List ℕ) → is_whitespace c ≡ true → replaced quartz after_dash (encode_utf8 c ++ t) ≡ behind (encode_utf8 c) (replaced quartz false t)
+pub white_first : (quartz after_dash : Bool) (c : ℕ) (t : List ℕ) → is_whitespace c ≡ true → replaced quartz after_dash (encode_utf8 c ++ t) ≡ with_front (encode_utf8 c) (replaced quartz false t)
 white_first quartz after_dash c t h =
-    char_kept quartz after_dash c t (first (encode_utf8 c ++ t) (char_small c t (white_small c h))) (white_kept c h) ∙ ap (λ d. behind (encode_utf8 c) (replaced quartz d t)) (white_no_dash c h)
+    char_kept quartz after_dash c t (first (encode_utf8 c ++ t) (char_small c t (white_small c h))) (white_kept c h) ∙ ap (λ d. with_front (encode_utf8 c) (replaced quartz d t)) (white_no_dash c h)
 
 flag_off : (quartz after_dash : Bool) (rest : List ℕ) → Follows rest → replaced quartz after_dash rest ≡ replaced quartz false rest
 flag_off quartz after_dash [] f = refl
@@ -149,7 +149,7 @@ lost_first quartz after_dash c t h lost =
 
 -- ---- one name
 
-pub name_first : (quartz after_dash : Bool) (a b c : ℕ) (t : List ℕ) (p : Piece) → name_of (a ∷ b ∷ c ∷ []) ≡ Some p → replaced quartz after_dash (a ∷ b ∷ c ∷ t) ≡ behind (shown quartz after_dash p) (replaced quartz (is_dash p) t)
+pub name_first : (quartz after_dash : Bool) (a b c : ℕ) (t : List ℕ) (p : Piece) → name_of (a ∷ b ∷ c ∷ []) ≡ Some p → replaced quartz after_dash (a ∷ b ∷ c ∷ t) ≡ with_front (shown quartz after_dash p) (replaced quartz (is_dash p) t)
 name_first quartz after_dash a b c t p e =
     ap (option_map (expansion quartz after_dash)) (cut_named (a ∷ b ∷ c ∷ t) p (omega arith) e) ∙ shown_onto quartz after_dash p _
 
@@ -209,7 +209,7 @@ record Kept (quartz after_dash : Bool) (word : List ℕ) : Type 0 where
   scalars : all_scalars cs ≡ true
   plain : NonePass is_whitespace cs
   some : 0 < length word → 0 < length (encode_utf8_all cs)
-  goes_on : (rest : List ℕ) → Follows rest → replaced quartz after_dash (word ++ rest) ≡ behind (encode_utf8_all cs) (replaced quartz false rest)
+  goes_on : (rest : List ℕ) → Follows rest → replaced quartz after_dash (word ++ rest) ≡ with_front (encode_utf8_all cs) (replaced quartz false rest)
 
 abbrev Reads : Bool → Bool → List ℕ → Type 0
 Reads quartz after_dash word = Lost quartz after_dash word ⊎ Kept quartz after_dash word
@@ -219,7 +219,7 @@ char_on : (quartz after_dash : Bool) (c : ℕ) (cs : List ℕ) → scalar c ≡ 
 char_on quartz after_dash c cs scalar_c plain kept none read = elim read [
   | inl lost ↦ inl (λ rest f.
       ap (replaced quartz after_dash) (append_assoc (encode_utf8 c) (encode_utf8_all cs) rest) ∙ char_kept quartz after_dash c (encode_utf8_all cs ++ rest) (none rest f) kept
-      ∙ ap (behind (encode_utf8 c)) (lost rest f))
+      ∙ ap (with_front (encode_utf8 c)) (lost rest f))
   | inr k ↦ inr (record {
     cs = c ∷ k.cs;
     scalars = and_from (scalar c) (all_scalars k.cs) scalar_c k.scalars;
@@ -227,7 +227,7 @@ char_on quartz after_dash c cs scalar_c plain kept none read = elim read [
     some = λ _. some_bytes c (encode_utf8_all k.cs);
     goes_on = λ rest f.
         ap (replaced quartz after_dash) (append_assoc (encode_utf8 c) (encode_utf8_all cs) rest) ∙ char_kept quartz after_dash c (encode_utf8_all cs ++ rest) (none rest f) kept
-        ∙ ap (behind (encode_utf8 c)) (k.goes_on rest f) ∙ behind_behind (encode_utf8 c) (encode_utf8_all k.cs) (replaced quartz false rest);
+        ∙ ap (with_front (encode_utf8 c)) (k.goes_on rest f) ∙ with_front-append (encode_utf8 c) (encode_utf8_all k.cs) (replaced quartz false rest);
   })
 ]
 
@@ -243,11 +243,11 @@ one_char quartz after_dash c cs scalar_c plain none read = elim (cases_Bool (is_
 one_name : (quartz after_dash : Bool) (a b c : ℕ) (cs : List ℕ) (p : Piece) → encode_utf8_all (a ∷ b ∷ c ∷ cs) ≡ a ∷ b ∷ c ∷ encode_utf8_all cs → name_of (a ∷ b ∷ c ∷ []) ≡ Some p → IsNumber quartz after_dash p
     → Reads quartz false (encode_utf8_all cs) → Reads quartz after_dash (encode_utf8_all (a ∷ b ∷ c ∷ cs))
 one_name quartz after_dash a b c cs p same e number read =
-    let step : (rest : List ℕ) → replaced quartz after_dash (encode_utf8_all (a ∷ b ∷ c ∷ cs) ++ rest) ≡ behind (shown quartz after_dash p) (replaced quartz false (encode_utf8_all cs ++ rest)) =
+    let step : (rest : List ℕ) → replaced quartz after_dash (encode_utf8_all (a ∷ b ∷ c ∷ cs) ++ rest) ≡ with_front (shown quartz after_dash p) (replaced quartz false (encode_utf8_all cs ++ rest)) =
     λ rest. ap (λ x. replaced quartz after_dash (x ++ rest)) same ∙ name_first quartz after_dash a b c (encode_utf8_all cs ++ rest) p e
-    ∙ ap (λ d. behind (shown quartz after_dash p) (replaced quartz d (encode_utf8_all cs ++ rest))) number.no_dash in
+    ∙ ap (λ d. with_front (shown quartz after_dash p) (replaced quartz d (encode_utf8_all cs ++ rest))) number.no_dash in
     elim read [
-      | inl lost ↦ inl (λ rest f. step rest ∙ ap (behind (shown quartz after_dash p)) (lost rest f))
+      | inl lost ↦ inl (λ rest f. step rest ∙ ap (with_front (shown quartz after_dash p)) (lost rest f))
       | inr k ↦
           let spelled : encode_utf8_all (shown quartz after_dash p ++ k.cs) ≡ shown quartz after_dash p ++ encode_utf8_all k.cs =
           encodes-append (shown quartz after_dash p) k.cs ∙ ap (λ x. x ++ encode_utf8_all k.cs) (digits_encode (shown quartz after_dash p) number.digits) in
@@ -257,8 +257,8 @@ one_name quartz after_dash a b c cs p same e number read =
             plain = digits_plain (shown quartz after_dash p) k.cs number.digits k.plain;
             some = λ _. omega (arith, ap length spelled, length-append (shown quartz after_dash p) (encode_utf8_all k.cs), number.some);
             goes_on = λ rest f.
-                step rest ∙ ap (behind (shown quartz after_dash p)) (k.goes_on rest f) ∙ behind_behind (shown quartz after_dash p) (encode_utf8_all k.cs) (replaced quartz false rest)
-                ∙ ap (λ x. behind x (replaced quartz false rest)) (sym spelled);
+                step rest ∙ ap (with_front (shown quartz after_dash p)) (k.goes_on rest f) ∙ with_front-append (shown quartz after_dash p) (encode_utf8_all k.cs) (replaced quartz false rest)
+                ∙ ap (λ x. with_front x (replaced quartz false rest)) (sym spelled);
           })
     ]
 
@@ -305,7 +305,7 @@ word_reads quartz after_dash [] s h = inr (record {
   scalars = refl;
   plain = tt;
   some = λ l. absurd (omega (arith, l));
-  goes_on = λ rest f. flag_off quartz after_dash rest f ∙ sym (behind-nil (replaced quartz false rest));
+  goes_on = λ rest f. flag_off quartz after_dash rest f ∙ sym (with_front-nil (replaced quartz false rest));
 })
 word_reads quartz after_dash (a ∷ []) s h =
     let parts = and_parts (scalar a) (all_scalars []) s in
@@ -351,24 +351,24 @@ pub record HasCut (quartz : Bool) (text : List ℕ) (ws : List (List ℕ)) : Typ
 abbrev pub HasNoCut : Bool → List ℕ → List (List ℕ) → Type 0
 HasNoCut quartz text ws = (replaced quartz false text ≡ None) × (list_all (is_cut quartz) ws ≡ false)
 
-gap_kept : (quartz : Bool) (gs x : List ℕ) → NonePass is_not_whitespace gs → replaced quartz false (encode_utf8_all gs ++ x) ≡ behind (encode_utf8_all gs) (replaced quartz false x)
-gap_kept quartz [] x h = sym (behind-nil (replaced quartz false x))
+gap_kept : (quartz : Bool) (gs x : List ℕ) → NonePass is_not_whitespace gs → replaced quartz false (encode_utf8_all gs ++ x) ≡ with_front (encode_utf8_all gs) (replaced quartz false x)
+gap_kept quartz [] x h = sym (with_front-nil (replaced quartz false x))
 gap_kept quartz (g ∷ gs) x h =
     ap (replaced quartz false) (append_assoc (encode_utf8 g) (encode_utf8_all gs) x) ∙ white_first quartz false g (encode_utf8_all gs ++ x) (not-false (is_whitespace g) h.0)
-    ∙ ap (behind (encode_utf8 g)) (gap_kept quartz gs x h.1) ∙ behind_behind (encode_utf8 g) (encode_utf8_all gs) (replaced quartz false x)
+    ∙ ap (with_front (encode_utf8 g)) (gap_kept quartz gs x h.1) ∙ with_front-append (encode_utf8 g) (encode_utf8_all gs) (replaced quartz false x)
 
 follows_nil : Follows []
 follows_nil = ([], λ l. absurd (omega (arith, l)))
 
-behind_white : (c : ℕ) (o : Option (List ℕ)) (now : List ℕ) → is_whitespace c ≡ true → scalar c ≡ true → behind (encode_utf8 c) o ≡ Some now → Follows now
-behind_white c None now h s e = absurd (none-some now e)
-behind_white c (Some t) now h s e = (t, λ _. (c, h, sym (same_Some (encode_utf8 c ++ t) now e), s))
+white_in_front : (c : ℕ) (o : Option (List ℕ)) (now : List ℕ) → is_whitespace c ≡ true → scalar c ≡ true → with_front (encode_utf8 c) o ≡ Some now → Follows now
+white_in_front c None now h s e = absurd (none-some now e)
+white_in_front c (Some t) now h s e = (t, λ _. (c, h, sym (same_Some (encode_utf8 c ++ t) now e), s))
 
 follows_now : (quartz : Bool) (rest now : List ℕ) → Follows rest → replaced quartz false rest ≡ Some now → Follows now
 follows_now quartz [] now f e = subst Follows (same_Some [] now e) follows_nil
 follows_now quartz (b ∷ bs) now f e =
     let k = f.1 (omega arith) in
-    behind_white k.0 (replaced quartz false f.0) now k.1 k.3 (sym (white_first quartz false k.0 f.0 k.1) ∙ ap (replaced quartz false) (sym k.2) ∙ e)
+    white_in_front k.0 (replaced quartz false f.0) now k.1 k.3 (sym (white_first quartz false k.0 f.0 k.1) ∙ ap (replaced quartz false) (sym k.2) ∙ e)
 
 scalars_parts : (ds es : List ℕ) → all_scalars (ds ++ es) ≡ true → (all_scalars ds ≡ true) × (all_scalars es ≡ true)
 scalars_parts [] es h = (refl, h)
@@ -377,7 +377,7 @@ scalars_parts (d ∷ ds) es h =
     let rest = scalars_parts ds es parts.1 in
     (and_from (scalar d) (all_scalars ds) parts.0 rest.0, rest.1)
 
--- characters in front of a text are characters, and what stands behind them is text
+-- characters in front of a text are characters, and what stands after them is text
 pub front_of_text : (ds rest : List ℕ) → IsUtf8 (encode_utf8_all ds ++ rest) → (all_scalars ds ≡ true) × IsUtf8 rest
 front_of_text ds rest utf8 =
     let k = split_encodes ds utf8.0 rest utf8.1.1 in
@@ -397,28 +397,28 @@ text_reads quartz (w ∷ ws) text utf8 h =
     let spelled : text ≡ encode_utf8_all gs ++ (encode_utf8_all us ++ rest) = rw (s.is_gap.1, s.is_word.1) s.spells in
     let one = front_of_text gs (encode_utf8_all us ++ rest) (subst IsUtf8 spelled utf8) in
     let two = front_of_text us rest one.1 in
-    let whole : replaced quartz false text ≡ behind (encode_utf8_all gs) (replaced quartz false (encode_utf8_all us ++ rest)) =
+    let whole : replaced quartz false text ≡ with_front (encode_utf8_all gs) (replaced quartz false (encode_utf8_all us ++ rest)) =
     ap (replaced quartz false) spelled ∙ gap_kept quartz gs (encode_utf8_all us ++ rest) s.is_gap.2 in
     elim (word_reads quartz false us two.0 s.is_word.2) [
       | inl lost ↦
           let none : replaced quartz false w ≡ None = ap (replaced quartz false) (sym s.is_word.1 ∙ sym (append-nil (encode_utf8_all us))) ∙ lost [] follows_nil in
-          inl (whole ∙ ap (behind (encode_utf8_all gs)) (lost rest s.ends), ap (λ o. is_some o && list_all (is_cut quartz) ws) none)
+          inl (whole ∙ ap (with_front (encode_utf8_all gs)) (lost rest s.ends), ap (λ o. is_some o && list_all (is_cut quartz) ws) none)
       | inr k ↦
           let alone : replaced quartz false w ≡ Some (encode_utf8_all k.cs) =
           ap (replaced quartz false) (sym s.is_word.1 ∙ sym (append-nil (encode_utf8_all us))) ∙ k.goes_on [] follows_nil ∙ ap Some (append-nil (encode_utf8_all k.cs)) in
-          let on : replaced quartz false text ≡ behind (encode_utf8_all gs) (behind (encode_utf8_all k.cs) (replaced quartz false rest)) =
-          whole ∙ ap (behind (encode_utf8_all gs)) (k.goes_on rest s.ends) in
+          let on : replaced quartz false text ≡ with_front (encode_utf8_all gs) (with_front (encode_utf8_all k.cs) (replaced quartz false rest)) =
+          whole ∙ ap (with_front (encode_utf8_all gs)) (k.goes_on rest s.ends) in
           let is_so : is_cut quartz w ≡ true = ap is_some alone in
           elim (text_reads quartz ws rest two.1 h.2) [
             | inl none ↦
-                inl (on ∙ ap (λ o. behind (encode_utf8_all gs) (behind (encode_utf8_all k.cs) o)) none.0, ap (λ b. b && list_all (is_cut quartz) ws) is_so ∙ none.1)
+                inl (on ∙ ap (λ o. with_front (encode_utf8_all gs) (with_front (encode_utf8_all k.cs) o)) none.0, ap (λ b. b && list_all (is_cut quartz) ws) is_so ∙ none.1)
             | inr c ↦
                 let now = encode_utf8_all gs ++ (encode_utf8_all k.cs ++ c.now) in
                 let is_written : written quartz w ≡ encode_utf8_all k.cs = ap (λ o. unwrap_or o []) alone in
                 inr (record {
                   now = now;
                   utf8 = IsUtf8-append (encode_utf8_all gs) (encode_utf8_all k.cs ++ c.now) (gs, (one.0, refl)) (IsUtf8-append (encode_utf8_all k.cs) c.now (k.cs, (k.scalars, refl)) c.utf8);
-                  same = on ∙ ap (λ o. behind (encode_utf8_all gs) (behind (encode_utf8_all k.cs) o)) c.same;
+                  same = on ∙ ap (λ o. with_front (encode_utf8_all gs) (with_front (encode_utf8_all k.cs) o)) c.same;
                   are_words = (
                     c.now,
                     record {

@@ -101,7 +101,7 @@ trimmed_stays text utf8 begins ends =
 
 -- ---- the ends of a list
 
--- a list is empty, or its last item stands behind others
+-- a list is empty, or its last item stands after others
 pub from_end : (cs : List ℕ) → (cs ≡ []) ⊎ ((front : List ℕ) × (c : ℕ) × (cs ≡ front ++ c ∷ []))
 from_end [] = inl refl
 from_end (c ∷ cs) = elim (from_end cs) [

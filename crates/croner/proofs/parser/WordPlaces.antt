@@ -1,4 +1,4 @@
--- The words of a text in their places, and the pieces of a word: what stands in front of them and behind them.
+-- The words of a text in their places, and the pieces of a word: what stands in front of them and after them.
 use Rattle.std.proofs.Common.{◌≡◌, ℕ, ltb, suc, zero, Some, slice_get, ◌+◌, ◌-◌, ◌<◌, ◌≤◌, Bool, true, List, [], ◌∷◌, ◌++◌, length, map, take, drop, get_or, take_at, drop_at, slice_range, refl, ap, sym, ◌∙◌, subst, arith}
 use Rattle.std.proofs.lemmas.Bool.{cond-false, cond-true, false≢true, ltb-true, not-false}
 use Rattle.std.proofs.lemmas.List.{append_assoc, append-nil, length-append}
@@ -14,15 +14,15 @@ use Rattle.croner.proofs.parser.GivenWords.{gap_follows, words_on}
 use Rattle.croner.proofs.parser.ReplacedWords.{front_of_text}
 use Rattle.croner.proofs.parser.WordLists.{are_words, words_are}
 
--- ---- words behind words
+-- ---- words after words
 
 no_first : (word rest gap : List ℕ) → 0 < length word → [] ≡ gap ++ (word ++ rest) → ⊥
 no_first word rest gap some e = omega (arith, some, ap length e, length-append gap (word ++ rest), length-append word rest)
 
-words_behind : (a b : List ℕ) (ws vs : List (List ℕ)) → AreWords a ws → AreWords b vs → (0 < length a → Follows b) → AreWords (a ++ b) (ws ++ vs)
-words_behind [] b [] vs h k f = k
-words_behind [] b (w ∷ ws) vs h k f = absurd (no_first w h.0 h.1.gap h.1.some h.1.spells)
-words_behind (x ∷ a) b ws vs h k f = words_on (x ∷ a) b ws vs h k (f (omega arith))
+words_after : (a b : List ℕ) (ws vs : List (List ℕ)) → AreWords a ws → AreWords b vs → (0 < length a → Follows b) → AreWords (a ++ b) (ws ++ vs)
+words_after [] b [] vs h k f = k
+words_after [] b (w ∷ ws) vs h k f = absurd (no_first w h.0 h.1.gap h.1.some h.1.spells)
+words_after (x ∷ a) b ws vs h k f = words_on (x ∷ a) b ws vs h k (f (omega arith))
 
 -- white space that begins a text begins it whatever follows
 follows_front : (a b : List ℕ) → 0 < length a → Follows a → Follows (a ++ b)
@@ -75,32 +75,32 @@ walk_starts text utf8 = record {
   utf8 = utf8;
 }
 
--- the word's characters, and what stands behind it
-inside : (rest word behind : List ℕ) → IsUtf8 rest → StartsWith rest word behind → IsUtf8 word × IsUtf8 behind
-inside rest word behind utf8 s =
+-- the word's characters, and what stands after it
+inside : (rest word after : List ℕ) → IsUtf8 rest → StartsWith rest word after → IsUtf8 word × IsUtf8 after
+inside rest word after utf8 s =
     let gs = s.is_gap.0 in
     let us = s.is_word.0 in
-    let spelled : rest ≡ encode_utf8_all gs ++ (encode_utf8_all us ++ behind) = rw (s.is_gap.1, s.is_word.1) s.spells in
-    let one = front_of_text gs (encode_utf8_all us ++ behind) (subst IsUtf8 spelled utf8) in
-    let two = front_of_text us behind one.1 in
+    let spelled : rest ≡ encode_utf8_all gs ++ (encode_utf8_all us ++ after) = rw (s.is_gap.1, s.is_word.1) s.spells in
+    let one = front_of_text gs (encode_utf8_all us ++ after) (subst IsUtf8 spelled utf8) in
+    let two = front_of_text us after one.1 in
     (subst IsUtf8 s.is_word.1 (us, (two.0, refl)), two.1)
 
 -- a front of the first word stands apart from what was walked over
-apart_at : (rest word behind p gap : List ℕ) → IsUtf8 behind → Follows rest → 0 < length word → NoCharPasses is_whitespace word → rest ≡ gap ++ (word ++ behind) → NoCharPasses is_not_whitespace gap → Follows (gap ++ p)
-apart_at rest word behind p [] utf8 k some plain e g =
-    let w = k.1 (omega (arith, ap length e, length-append word behind, some)) in
+apart_at : (rest word after p gap : List ℕ) → IsUtf8 after → Follows rest → 0 < length word → NoCharPasses is_whitespace word → rest ≡ gap ++ (word ++ after) → NoCharPasses is_not_whitespace gap → Follows (gap ++ p)
+apart_at rest word after p [] utf8 k some plain e g =
+    let w = k.1 (omega (arith, ap length e, length-append word after, some)) in
     let same : encode_utf8_all (plain.0 ++ utf8.0) ≡ encode_utf8 w.0 ++ k.0 =
     encodes-append plain.0 utf8.0 ∙ ap (λ x. x ++ encode_utf8_all utf8.0) plain.1 ∙ ap (λ x. word ++ x) utf8.1.1 ∙ sym e ∙ w.2 in
     absurd (no_white plain.0 utf8.0 k.0 w.0 (subst (λ x. 0 < length x) (sym plain.1) some) plain.2 w.1 same)
-apart_at rest word behind p (g ∷ gs) utf8 k some plain e h = follows_front (g ∷ gs) p (omega arith) (gap_follows (g ∷ gs) h)
+apart_at rest word after p (g ∷ gs) utf8 k some plain e h = follows_front (g ∷ gs) p (omega arith) (gap_follows (g ∷ gs) h)
 
-apart : (done rest word behind p : List ℕ) → (s : StartsWith rest word behind) → IsUtf8 behind → (0 < length done → Follows rest) → 0 < length done → Follows (s.gap ++ p)
-apart done rest word behind p s utf8 f some = apart_at rest word behind p s.gap utf8 (f some) s.some s.is_word s.spells s.is_gap
+apart : (done rest word after p : List ℕ) → (s : StartsWith rest word after) → IsUtf8 after → (0 < length done → Follows rest) → 0 < length done → Follows (s.gap ++ p)
+apart done rest word after p s utf8 f some = apart_at rest word after p s.gap utf8 (f some) s.some s.is_word s.spells s.is_gap
 
 -- a step goes past the gap and the word
-pub walk_goes_on : (text word behind rest : List ℕ) (ws : List (List ℕ)) (from : ℕ) → (w : IsWalked text ws from rest) → (s : StartsWith rest word behind) → IsWalked text (ws ++ word ∷ []) (from + length s.gap + length word) behind
-walk_goes_on text word behind rest ws from w s =
-    let k = inside rest word behind w.utf8 s in
+pub walk_goes_on : (text word after rest : List ℕ) (ws : List (List ℕ)) (from : ℕ) → (w : IsWalked text ws from rest) → (s : StartsWith rest word after) → IsWalked text (ws ++ word ∷ []) (from + length s.gap + length word) after
+walk_goes_on text word after rest ws from w s =
+    let k = inside rest word after w.utf8 s in
     let one : AreWords (s.gap ++ word) (word ∷ []) = (
       [],
       record {
@@ -115,9 +115,9 @@ walk_goes_on text word behind rest ws from w s =
     ) in
     record {
       done = w.done ++ (s.gap ++ word);
-      spells = w.spells ∙ ap (λ x. w.done ++ x) (s.spells ∙ sym (append_assoc s.gap word behind)) ∙ sym (append_assoc w.done (s.gap ++ word) behind);
+      spells = w.spells ∙ ap (λ x. w.done ++ x) (s.spells ∙ sym (append_assoc s.gap word after)) ∙ sym (append_assoc w.done (s.gap ++ word) after);
       its_end = omega (arith, length-append w.done (s.gap ++ word), length-append s.gap word, w.its_end);
-      are_words = words_behind w.done (s.gap ++ word) ws (word ∷ []) w.are_words one (apart w.done rest word behind word s k.1 w.apart);
+      are_words = words_after w.done (s.gap ++ word) ws (word ∷ []) w.are_words one (apart w.done rest word after word s k.1 w.apart);
       apart = λ _. s.ends;
       utf8 = k.1;
     }
@@ -147,7 +147,7 @@ seen text place at start end word piece utf8 w a b p is_start is_end =
     let s = w.first in
     let done = w.walked.done in
     let gap = s.gap in
-    let k = inside w.rest word w.behind w.walked.utf8 s in
+    let k = inside w.rest word w.after w.walked.utf8 s in
     let tail : IsUtf8 (piece ++ p.back) = IsUtf8-append piece p.back p.piece_utf8 p.back_utf8 in
     let before : IsUtf8 p.front =
     subst IsUtf8 (ap (take (length p.front)) p.spells ∙ take_at p.front (piece ++ p.back) (length p.front) refl)
@@ -156,12 +156,12 @@ seen text place at start end word piece utf8 w a b p is_start is_end =
     let plain_piece = plain_parts piece p.back p.piece_utf8 p.back_utf8 plain.1 in
     let plain_front = plain_parts (p.front ++ piece) p.back (IsUtf8-append p.front piece before p.piece_utf8) p.back_utf8 (subst (NoCharPasses is_whitespace) (p.spells ∙ sym (append_assoc p.front piece p.back)) s.is_word) in
     let lead = done ++ (gap ++ p.front) in
-    let rear = p.back ++ w.behind in
+    let rear = p.back ++ w.after in
     let spelled : text ≡ lead ++ (piece ++ rear) =
-    w.walked.spells ∙ ap (λ x. done ++ x) (s.spells ∙ ap (λ x. gap ++ (x ++ w.behind)) p.spells ∙ ap (λ x. gap ++ x) (append_assoc p.front (piece ++ p.back) w.behind) ∙ sym (append_assoc gap p.front ((piece ++ p.back) ++ w.behind)))
-    ∙ sym (append_assoc done (gap ++ p.front) ((piece ++ p.back) ++ w.behind)) ∙ ap (λ x. lead ++ x) (append_assoc piece p.back w.behind) in
+    w.walked.spells ∙ ap (λ x. done ++ x) (s.spells ∙ ap (λ x. gap ++ (x ++ w.after)) p.spells ∙ ap (λ x. gap ++ x) (append_assoc p.front (piece ++ p.back) w.after) ∙ sym (append_assoc gap p.front ((piece ++ p.back) ++ w.after)))
+    ∙ sym (append_assoc done (gap ++ p.front) ((piece ++ p.back) ++ w.after)) ∙ ap (λ x. lead ++ x) (append_assoc piece p.back w.after) in
     let upto : text ≡ (lead ++ piece) ++ rear = spelled ∙ sym (append_assoc lead piece rear) in
-    let rear_utf8 : IsUtf8 rear = IsUtf8-append p.back w.behind p.back_utf8 k.1 in
+    let rear_utf8 : IsUtf8 rear = IsUtf8-append p.back w.after p.back_utf8 k.1 in
     let length_lead : length lead ≡ start = omega (arith, length-append done (gap ++ p.front), length-append gap p.front, w.walked.its_end, w.its_start, p.its_start, is_start) in
     let length_upto : length (lead ++ piece) ≡ end = omega (arith, length-append lead piece, length_lead, p.its_end, is_start, is_end) in
     let starts : IsCharBoundary text start = subst (IsCharBoundary text) length_lead (IsCharBoundary-at_seam text lead (piece ++ rear) spelled (IsUtf8-append piece rear p.piece_utf8 rear_utf8)) in
@@ -172,7 +172,7 @@ seen text place at start end word piece utf8 w a b p is_start is_end =
     sym (words_are (take end text) (w.ws ++ (p.front ++ piece) ∷ []) (IsUtf8-take text end utf8 ends)
     (subst (λ t. AreWords t (w.ws ++ (p.front ++ piece) ∷ []))
     (ap (λ x. done ++ x) (sym (append_assoc gap p.front piece)) ∙ sym (append_assoc done (gap ++ p.front) piece) ∙ sym taken)
-    (words_behind done (gap ++ (p.front ++ piece)) w.ws ((p.front ++ piece) ∷ []) w.walked.are_words (
+    (words_after done (gap ++ (p.front ++ piece)) w.ws ((p.front ++ piece) ∷ []) w.walked.are_words (
       [],
       record {
         gap = gap;
@@ -184,11 +184,11 @@ seen text place at start end word piece utf8 w a b p is_start is_end =
       },
       ([], refl, tt),
     )
-    (apart done w.rest word w.behind (p.front ++ piece) s k.1 w.walked.apart)))) in
-    let behind : words (drop start text) ≡ (piece ++ p.back) ∷ words w.behind =
-    ap words (dropped ∙ sym (append_assoc piece p.back w.behind))
-    ∙ sym (words_are ((piece ++ p.back) ++ w.behind) ((piece ++ p.back) ∷ words w.behind) (IsUtf8-append (piece ++ p.back) w.behind tail k.1) (
-      w.behind,
+    (apart done w.rest word w.after (p.front ++ piece) s k.1 w.walked.apart)))) in
+    let after : words (drop start text) ≡ (piece ++ p.back) ∷ words w.after =
+    ap words (dropped ∙ sym (append_assoc piece p.back w.after))
+    ∙ sym (words_are ((piece ++ p.back) ++ w.after) ((piece ++ p.back) ∷ words w.after) (IsUtf8-append (piece ++ p.back) w.after tail k.1) (
+      w.after,
       record {
         gap = [];
         spells = refl;
@@ -197,7 +197,7 @@ seen text place at start end word piece utf8 w a b p is_start is_end =
         is_word = plain.1;
         ends = s.ends;
       },
-      are_words w.behind k.1,
+      are_words w.after k.1,
     )) in
     record {
       starts = starts;
@@ -207,7 +207,7 @@ seen text place at start end word piece utf8 w a b p is_start is_end =
       one_word = one_word piece p.piece_utf8 p.some plain_piece.0;
       count = ap length fronts ∙ length-append w.ws ((p.front ++ piece) ∷ []) ∙ ap (λ n. n + 1) w.its_place;
       front_of_word = ap (λ ws. get_or ws place []) fronts ∙ last_of w.ws (p.front ++ piece) place w.its_place;
-      rest_of_word = ap (λ ws. get_or ws 0 []) behind;
+      rest_of_word = ap (λ ws. get_or ws 0 []) after;
     }
 
 -- ---- a whole word
@@ -226,31 +226,31 @@ whole_word word utf8 some = record {
 }
 
 pub word_utf8 : (text : List ℕ) (place at : ℕ) (word : List ℕ) → IsWordFrom text place at word → IsUtf8 word × (0 < length word)
-word_utf8 text place at word w = ((inside w.rest word w.behind w.walked.utf8 w.first).0, w.first.some)
+word_utf8 text place at word w = ((inside w.rest word w.after w.walked.utf8 w.first).0, w.first.some)
 
--- the words in front of a word, and those behind it
+-- the words in front of a word, and those after it
 pub words_around : (text : List ℕ) (place at end : ℕ) (word : List ℕ) → IsUtf8 text → IsWordFrom text place at word → at + length word ≡ end → (length (words (take at text)) ≡ place) × (place + 1 + length (words (drop end text)) ≡ length (words text))
 words_around text place at end word utf8 w is_end =
     let s = w.first in
     let done = w.walked.done in
-    let k = inside w.rest word w.behind w.walked.utf8 s in
+    let k = inside w.rest word w.after w.walked.utf8 s in
     let lead = done ++ s.gap in
-    let spelled : text ≡ lead ++ (word ++ w.behind) = w.walked.spells ∙ ap (λ x. done ++ x) s.spells ∙ sym (append_assoc done s.gap (word ++ w.behind)) in
-    let tail = IsUtf8-append word w.behind k.0 k.1 in
+    let spelled : text ≡ lead ++ (word ++ w.after) = w.walked.spells ∙ ap (λ x. done ++ x) s.spells ∙ sym (append_assoc done s.gap (word ++ w.after)) in
+    let tail = IsUtf8-append word w.after k.0 k.1 in
     let length_lead : length lead ≡ at = omega (arith, length-append done s.gap, w.walked.its_end, w.its_start) in
-    let upto : text ≡ (lead ++ word) ++ w.behind = spelled ∙ sym (append_assoc lead word w.behind) in
-    let starts : IsCharBoundary text at = subst (IsCharBoundary text) length_lead (IsCharBoundary-at_seam text lead (word ++ w.behind) spelled tail) in
-    let taken : take at text ≡ lead = ap (take at) spelled ∙ take_at lead (word ++ w.behind) at length_lead in
-    let dropped : drop end text ≡ w.behind = ap (drop end) upto ∙ drop_at (lead ++ word) w.behind end (omega (arith, length-append lead word, length_lead, is_end)) in
+    let upto : text ≡ (lead ++ word) ++ w.after = spelled ∙ sym (append_assoc lead word w.after) in
+    let starts : IsCharBoundary text at = subst (IsCharBoundary text) length_lead (IsCharBoundary-at_seam text lead (word ++ w.after) spelled tail) in
+    let taken : take at text ≡ lead = ap (take at) spelled ∙ take_at lead (word ++ w.after) at length_lead in
+    let dropped : drop end text ≡ w.after = ap (drop end) upto ∙ drop_at (lead ++ word) w.after end (omega (arith, length-append lead word, length_lead, is_end)) in
     let fronts : words (take at text) ≡ w.ws ++ [] =
     sym (words_are (take at text) (w.ws ++ []) (IsUtf8-take text at utf8 starts)
-    (subst (λ t. AreWords t (w.ws ++ [])) (sym taken) (words_behind done s.gap w.ws [] w.walked.are_words s.is_gap (λ _. gap_follows s.gap s.is_gap)))) in
-    let all : words text ≡ w.ws ++ word ∷ words w.behind =
-    sym (words_are text (w.ws ++ word ∷ words w.behind) utf8
-    (subst (λ t. AreWords t (w.ws ++ word ∷ words w.behind)) (sym w.walked.spells)
-    (words_behind done w.rest w.ws (word ∷ words w.behind) w.walked.are_words (w.behind, s, are_words w.behind k.1) w.walked.apart))) in (
+    (subst (λ t. AreWords t (w.ws ++ [])) (sym taken) (words_after done s.gap w.ws [] w.walked.are_words s.is_gap (λ _. gap_follows s.gap s.is_gap)))) in
+    let all : words text ≡ w.ws ++ word ∷ words w.after =
+    sym (words_are text (w.ws ++ word ∷ words w.after) utf8
+    (subst (λ t. AreWords t (w.ws ++ word ∷ words w.after)) (sym w.walked.spells)
+    (words_after done w.rest w.ws (word ∷ words w.after) w.walked.are_words (w.after, s, are_words w.after k.1) w.walked.apart))) in (
       omega (arith, ap length fronts, length-append w.ws [], w.its_place),
-      omega (arith, ap length all, length-append w.ws (word ∷ words w.behind), w.its_place, ap (λ t. length (words t)) dropped),
+      omega (arith, ap length all, length-append w.ws (word ∷ words w.after), w.its_place, ap (λ t. length (words t)) dropped),
     )
 
 -- ---- the list of them
@@ -278,12 +278,12 @@ skip_none [] es some h = absurd (omega (arith, some))
 skip_none (u ∷ us) es some h = cond-false (is_whitespace u) (skip_leading_whitespace (us ++ es)) (u ∷ (us ++ es)) h.0
 
 -- the white space in front of a word is trimmed
-trimmed_front : (rest word behind : List ℕ) → IsUtf8 rest → StartsWith rest word behind → trim_start rest ≡ word ++ behind
+trimmed_front : (rest word after : List ℕ) → IsUtf8 rest → StartsWith rest word after → trim_start rest ≡ word ++ after
 unfolding trim_start
-trimmed_front rest word behind utf8 s =
+trimmed_front rest word after utf8 s =
     let gs = s.is_gap.0 in
     let us = s.is_word.0 in
-    let k = inside rest word behind utf8 s in
+    let k = inside rest word after utf8 s in
     let bs = k.1.0 in
     let spelled : encode_utf8_all (gs ++ (us ++ bs)) ≡ rest =
     encodes-append gs (us ++ bs) ∙ ap (λ x. x ++ encode_utf8_all (us ++ bs)) s.is_gap.1 ∙ ap (λ x. s.gap ++ x) (encodes-append us bs ∙ ap (λ x. x ++ encode_utf8_all bs) s.is_word.1 ∙ ap (λ x. word ++ x) k.1.1.1) ∙ sym s.spells in
@@ -293,14 +293,14 @@ trimmed_front rest word behind utf8 s =
     ∙ encodes-append us bs ∙ ap (λ x. x ++ encode_utf8_all bs) s.is_word.1 ∙ ap (λ x. word ++ x) k.1.1.1
 
 -- where the next word begins
-pub next_start : (text rest word behind here : List ℕ) (ws : List (List ℕ)) (from : ℕ) → IsWalked text ws from rest → (s : StartsWith rest word behind) → here ≡ trim_start (drop from text) → length text - length here ≡ from + length s.gap
-next_start text rest word behind here ws from w s e =
-    let trimmed : here ≡ word ++ behind = e ∙ ap trim_start (walk_rest text rest ws from w) ∙ trimmed_front rest word behind w.utf8 s in
-    omega (arith, ap length w.spells, length-append w.done rest, w.its_end, ap length s.spells, length-append s.gap (word ++ behind), ap length trimmed)
+pub next_start : (text rest word after here : List ℕ) (ws : List (List ℕ)) (from : ℕ) → IsWalked text ws from rest → (s : StartsWith rest word after) → here ≡ trim_start (drop from text) → length text - length here ≡ from + length s.gap
+next_start text rest word after here ws from w s e =
+    let trimmed : here ≡ word ++ after = e ∙ ap trim_start (walk_rest text rest ws from w) ∙ trimmed_front rest word after w.utf8 s in
+    omega (arith, ap length w.spells, length-append w.done rest, w.its_end, ap length s.spells, length-append s.gap (word ++ after), ap length trimmed)
 
 pub walk_ends : (text rest : List ℕ) (ws : List (List ℕ)) (from : ℕ) → IsUtf8 text → IsWalked text ws from rest → NoCharPasses is_not_whitespace rest → ws ≡ words text
 walk_ends text rest ws from utf8 w gap =
-    words_are text ws utf8 (subst (AreWords text) (append-nil ws) (subst (λ t. AreWords t (ws ++ [])) (sym w.spells) (words_behind w.done rest ws [] w.are_words gap (λ _. gap_follows rest gap))))
+    words_are text ws utf8 (subst (AreWords text) (append-nil ws) (subst (λ t. AreWords t (ws ++ [])) (sym w.spells) (words_after w.done rest ws [] w.are_words gap (λ _. gap_follows rest gap))))
 
 -- ---- a word of the list
 
@@ -329,4 +329,4 @@ word_at_place text pieces place p its inside e =
 -- a word ends within its text
 pub word_ends : (text : List ℕ) (place at : ℕ) (word : List ℕ) → IsUtf8 text → IsWordFrom text place at word → at + length word ≤ length text
 word_ends text place at word utf8 w =
-    omega (arith, ap length w.walked.spells, length-append w.walked.done w.rest, w.walked.its_end, ap length w.first.spells, length-append w.first.gap (word ++ w.behind), length-append word w.behind, w.its_start)
+    omega (arith, ap length w.walked.spells, length-append w.walked.done w.rest, w.walked.its_end, ap length w.first.spells, length-append w.first.gap (word ++ w.after), length-append word w.after, w.its_start)

@@ -31,9 +31,9 @@ reaches_unless dir a b never = elim (either dir b a) [ inl lt ↦ absurd (never 
 pub precedes_unless : (dir : Direction) (a b : ℤ) → (Reaches dir b a → ⊥) → Precedes dir a b
 precedes_unless dir a b never = elim (either dir a b) [ inl lt ↦ lt | inr le ↦ absurd (never le) ]
 
--- right behind a number in the direction
-pub along-behind : (dir : Direction) (own e : ℤ) → own ≡ one_on (opposite_way dir) e → along dir e ≡ along dir own +ℤ pos 1
-along-behind dir own e is = grind (arith, ints)
+-- right before a number in the direction
+pub along-before : (dir : Direction) (own e : ℤ) → own ≡ one_on (opposite_way dir) e → along dir e ≡ along dir own +ℤ pos 1
+along-before dir own e is = grind (arith, ints)
 
 pub opposite : (dir : Direction) (a b : ℤ) → Precedes dir a b → Precedes (opposite_way dir) b a
 opposite dir a b h = omega (arith, ints, along-opposite dir a, along-opposite dir b)

@@ -18,7 +18,7 @@ use Rattle.croner.specs.Private.search.Gaps.{IsSkipped, IsFirstShown, IsBeyond, 
 use Rattle.croner.specs.Private.search.Halves.{Break}
 use Rattle.croner.specs.Private.search.Walk.{First, UnreadTo, HasGapEnd, HasGapFront, pass_limit, Onward, Paces}
 use Rattle.croner.proofs.zone.Ahead.{Direction, Forward, Backward, along, Precedes, Reaches, offset_from, along-offset, one_on, both_next, either, same_or_ahead, precedes_unless}
-use Rattle.croner.proofs.zone.ZoneOrder.{Exactly, calm_of, exact_of, Calm, cases_lt_z, climbs, crossing, behind_next, line_past, below_before, above_after, change_of_break, nonnegative, put_back, there_and_back}
+use Rattle.croner.proofs.zone.ZoneOrder.{Exactly, calm_of, exact_of, Calm, cases_lt_z, climbs, crossing, before_next, line_past, below_before, above_after, change_of_break, nonnegative, put_back, there_and_back}
 use Rattle.croner.proofs.zone.Walks.{first_of_one, first_of_two}
 
 -- ---- each wall second is passed somewhere
@@ -51,7 +51,7 @@ module _ (reads : ℤ → ℤ) (calm : Calm reads) where
       let on = above_after reads calm p x breaks past in
       let q : ℤ = p +ℤ pos 1 in
       let k : ℤ = q +ℤ (v -ℤ reads q) in
-      let line = line_past reads calm Forward q q k (behind_next reads p breaks) (omega (arith, ints)) (omega (arith, ints)) (omega (arith, ints)) in
+      let line = line_past reads calm Forward q q k (before_next reads p breaks) (omega (arith, ints)) (omega (arith, ints)) (omega (arith, ints)) in
       none2 k (omega (arith, ints))
 
   -- so between a second in a gap and the first in the direction that is read, nothing is
@@ -302,9 +302,9 @@ module _ (direction : Direction) (z : Zone) (is_calm : IsCalm z) (s wall w next 
             }
       ]
 
-  -- a pass at a second whose nearer instant is behind: that lies near what the start shows, since the clock is put back by little
-  paced_behind : (e : ℤ) → Reaches direction (z.reads s) w → Precedes direction e s → z.reads e ≡ w → next ≡ one_on direction w → Paced direction z s next (k + 1)
-  paced_behind e from behind at moved =
+  -- a pass at a second whose nearer instant lies before the start: that lies near what the start shows, since the clock is put back by little
+  paced_before : (e : ℤ) → Reaches direction (z.reads s) w → Precedes direction e s → z.reads e ≡ w → next ≡ one_on direction w → Paced direction z s next (k + 1)
+  paced_before e from behind at moved =
       let same = ap (along direction) at in
       let turn = put_back z.reads (calm_of z is_calm) direction e s behind (omega (arith, ints)) in
       let one = ap (along direction) moved ∙ along-offset direction w 1 in
@@ -315,7 +315,7 @@ module _ (direction : Direction) (z : Zone) (is_calm : IsCalm z) (s wall w next 
 
   pub paced_on : Reaches direction (z.reads s) w → IsSearched w → Paces direction z.reads s w next → Paced direction z s next (k + 1)
   paced_on from years paces =
-      elim paces [ inl (unread, onward) ↦ paced_gap unread years onward | inr (moved, (e, at, behind)) ↦ paced_behind e from behind at moved ]
+      elim paces [ inl (unread, onward) ↦ paced_gap unread years onward | inr (moved, (e, at, behind)) ↦ paced_before e from behind at moved ]
 
 -- a walk in a calm zone ends before its limit of passes
 pub paced_ends : (direction : Direction) (z : Zone) → IsCalm z → (s wall : ℤ) (k : ℕ) → Paced direction z s wall k → k < pass_limit

@@ -156,7 +156,7 @@ edge_found moment direction m inside outside t found close at =
       (outside, n, here),
     )
 
--- ---- which runs lie in the span of a search: those that read a year of it, as does the half of a repeated range behind them
+-- ---- which runs lie in the span of a search: those that read a year of it, as does the half of a repeated range before them
 
 pub within_less : (direction : Direction) (a b : ℤ) → Reaches direction a b → IsWithin direction b → IsWithin direction a
 within_less direction a b h k = grind (arith, ints)

@@ -15,7 +15,7 @@ use Rattle.croner.specs.Private.search.Held.{HoldsYears, HoldsSecond, IsBackendE
 use Rattle.croner.specs.Private.search.Walk.{RunOf, WalkedFrom, OutFrom, IsWalked, IsWalkRefused}
 use Rattle.croner.specs.Private.search.Halves.{EdgeOf, HasTwin, CountsBoth, HasOtherHalf, IsHalfRefused, moment_from}
 use Rattle.croner.proofs.zone.ErrorsKept.{backend_error}
-use Rattle.croner.proofs.zone.Ahead.{Direction, Forward, Backward, opposite_way, along, Precedes, Reaches, offset_from, one_on, along-behind, either, offset_within, reaches-equal, reaches-same, reaches_unless}
+use Rattle.croner.proofs.zone.Ahead.{Direction, Forward, Backward, opposite_way, along, Precedes, Reaches, offset_from, one_on, along-before, either, offset_within, reaches-equal, reaches-same, reaches_unless}
 use Rattle.croner.proofs.zone.ZoneOrder.{calm_of, Calm, edge_line, past_break, reads_on}
 use Rattle.croner.proofs.zone.HalfEdges.{order_whole, within_less}
 use Rattle.croner.proofs.zone.Walks.{own_run_of, own_of_run, run_is_on, run_has_second, second_gives_run, is_run, counts_ahead, counts_reaches, true_or_false, begun, Seen, start_near, start_ahead, start_past, start_at, each_reads, first_of_run}
@@ -78,7 +78,7 @@ module _ (direction : Direction) (inclusive : Bool) (job : Job) (calm : Calm job
             inl (before, (w, visited direction inclusive job s i w counts ahead on, own, of, counts_ahead direction inclusive job s i counts))
       ]
 
--- where the other half does not count, as for a fixed-time job forward, or lies behind
+-- where the other half does not count, as for a fixed-time job forward, or lies before the start
 seen_alone : (direction : Direction) (inclusive : Bool) (job : Job) → Calm job.zone.reads → (s i : ℤ)
     → (CountsBoth direction job.timetable.fixed_time → ⊥) ⊎ (HasTwin direction job.zone.reads s → ⊥) → Counts direction inclusive job s i → Seen direction inclusive job s i
 seen_alone Backward inclusive job calm s i alone counts =
@@ -277,8 +277,8 @@ module _ {T : Type 0} (moment : T → Moment) (direction : Direction) (inclusive
 
     -- the last instant of the half that the start is on
     module _ (own : T) (back : Direction) (way : back ≡ opposite_way direction) (moved : moment own ≡ moment_from back (moment edge) 1) where
-      own_behind : along direction e ≡ along direction (moment own).instant +ℤ pos 1
-      own_behind = along-behind direction (moment own).instant e (ap (λ (m : Moment). m.instant) moved ∙ ap (λ (d : Direction). one_on d e) way)
+      own_before : along direction e ≡ along direction (moment own).instant +ℤ pos 1
+      own_before = along-before direction (moment own).instant e (ap (λ (m : Moment). m.instant) moved ∙ ap (λ (d : Direction). one_on d e) way)
 
       own_reads : reading (moment own) ≡ start.zone.reads (moment own).instant
       own_reads = ap (λ (z : Zone). z.reads (moment own).instant) (ap (λ (m : Moment). m.zone) moved ∙ half.0)
@@ -286,7 +286,7 @@ module _ {T : Type 0} (moment : T → Moment) (direction : Direction) (inclusive
       -- the own half reaches past the span
       pub limit_late : (IsWithin direction (reading (moment own)) → ⊥) → Out → NoneLeft
       limit_late late out h = λ i span counts.
-          let behind = own_behind in
+          let behind = own_before in
           by_halves (λ j. InSpan direction start.zone.reads j → ⊥) h (λ j from before seen inside. first_unseen out h j inside seen)
           (λ j on seen inside. late (subst (IsWithin direction) (sym own_reads) (inside (moment own).instant (omega (arith, ints))))) i counts span
 
@@ -296,7 +296,7 @@ module _ {T : Type 0} (moment : T → Moment) (direction : Direction) (inclusive
           second_by left u there
           (λ h j from before seen.
           let calm = calm_of start.zone h.calm in
-          let behind = own_behind in
+          let behind = own_before in
           let line = edge_line direction start.zone.reads calm start.instant e j (moment own).instant (half.2 h) from (omega (arith, ints)) (omega (arith, ints)) in
           let inside = within_less direction (start.zone.reads j) (start.zone.reads (moment own).instant) (omega (arith, ints)) (subst (IsWithin direction) own_reads within) in
           absurd (unseen direction inclusive job calm start.instant (out h) j inside seen))

@@ -141,7 +141,7 @@ first_of_two reads calm w e l (lt, a, b, only) =
 -- ---- answers
 
 module _ (direction : Direction) (inclusive : Bool) (job : Job) (calm : Calm job.zone.reads) (s : ℤ) where
-  -- what a walk meets, not behind its start, lies ahead of it
+  -- what a walk meets, not before its start, lies ahead of it
   ahead_of : (t w : ℤ) → Reaches direction (begun direction inclusive job s) w → job.zone.reads t ≡ w → Reaches direction s t → Ahead direction inclusive s t
   ahead_of t w from e le =
       elim (same_or_ahead direction s t le) [
@@ -195,7 +195,7 @@ module _ (direction : Direction) (inclusive : Bool) (job : Job) (calm : Calm job
         | inr each ↦ each_answer w t met each exact.0 ahead (λ x h k. reaches-equal direction t x (sym (exact.1 x k)))
       ]
 
-  -- of two instants that read w the nearer that is not behind
+  -- of two instants that read w the nearer that is not before the start
   nearer_answer : {T : Type 0} (moment : T → Moment) (w : ℤ) (near far t : T) → Meets direction inclusive job s w → job.timetable.fixed_time ≡ false
       → Precedes direction (moment near).instant (moment far).instant → job.zone.reads (moment near).instant ≡ w → job.zone.reads (moment far).instant ≡ w
       → ((x : ℤ) → job.zone.reads x ≡ w → (x ≡ (moment near).instant) ⊎ (x ≡ (moment far).instant))
@@ -276,12 +276,12 @@ gap_run_is_end direction job skipped end side t fixed ends unread gap u i on bef
 
 -- ---- how it goes on
 
--- where an interval job takes none of two instants, or a fixed-time job not the earlier, the earlier is behind
-one_behind : {T : Type 0} (moment : T → Moment) (fixed_time : Bool) (direction : Direction) (s : ℤ) (e l : T) → ChosenOf moment fixed_time direction s e l None
+-- where an interval job takes none of two instants, or a fixed-time job not the earlier, the earlier lies before the start
+one_before : {T : Type 0} (moment : T → Moment) (fixed_time : Bool) (direction : Direction) (s : ℤ) (e l : T) → ChosenOf moment fixed_time direction s e l None
     → Precedes direction (moment e).instant s
-one_behind moment true direction s e l h = h
-one_behind moment false Forward s e l h = h.0
-one_behind moment false Backward s e l h = h.1
+one_before moment true direction s e l h = h
+one_before moment false Forward s e l h = h.0
+one_before moment false Backward s e l h = h.1
 
 -- ---- how far a pass goes
 
@@ -393,7 +393,7 @@ module _ {T : Type 0} (moment : T → Moment) (direction : Direction) (inclusive
           (exact_of job.zone begins.calm c (Ambiguous (moment e).instant (moment l).instant) is) job.timetable.fixed_time direction refl
           (chosen begins.whole named_e.whole named_l.whole)),
       λ begins.
-          let behind = one_behind moment job.timetable.fixed_time direction start.instant e l (chosen begins.whole named_e.whole named_l.whole) in
+          let behind = one_before moment job.timetable.fixed_time direction start.instant e l (chosen begins.whole named_e.whole named_l.whole) in
           inr (moves, ((moment e).instant, named_e.reads_it, behind)),
     )
 
@@ -431,7 +431,7 @@ module _ {T : Type 0} (moment : T → Moment) (direction : Direction) (inclusive
                 (meets (wall_second c) there own begins) fixed (gap_end begins.calm) date (ahead begins.whole whole);
           }
 
-      -- the run at the gap's end is none, or lies behind
+      -- the run at the gap's end is none, or lies before the start
       abbrev pub NotCarried : Type 0
       NotCarried =
           start.fraction ≡ 0 → (moment t).fraction ≡ 0 → job.timetable.date_matches (wall_second end) → Ahead direction inclusive start.instant (moment t).instant → ⊥

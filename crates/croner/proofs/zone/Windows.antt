@@ -32,12 +32,12 @@ use Rattle.croner.proofs.zone.Ahead.{Direction, Forward, Backward, Precedes, Rea
 use Rattle.croner.proofs.zone.Walks.{counts_reaches}
 
 module _ (tz : TimeZone) (first last : ℤ) where
-  -- well in a window is two days behind its first second, or more
+  -- well in a window is two days after its first second, or more
   two_days_in : (i : ℤ) → IsWellIn tz first last i → (first +ℤ pos day_margin) ≤ℤ i
   two_days_in i (inl far, high) = omega (arith, signed_arith, far)
   two_days_in i (inr far, high) = far.1
 
-  -- and so is what comes behind it in the window
+  -- and so is what comes after it in the window
   later_well : (i j : ℤ) → IsWellIn tz first last i → i ≤ℤ j → j ≤ℤ last → IsWellIn tz first last j
   later_well i j (inl far, high) order within = (inl (omega (arith, signed_arith, far, order)), within)
   later_well i j (inr far, high) order within = (inr (far.0, omega (arith, signed_arith, far.1, order)), within)
@@ -111,7 +111,7 @@ module _ (tz : TimeZone) (first last : ℤ) where
   -- outside the window the clock of a table goes on from what it shows at the ends
   pub record GoesOn (t : Zone) : Type 0 where
     pub before : (i : ℤ) → i <ℤ first → t.reads i ≤ℤ t.reads first
-    pub behind : (i : ℤ) → last <ℤ i → t.reads last ≤ℤ t.reads i
+    pub later : (i : ℤ) → last <ℤ i → t.reads last ≤ℤ t.reads i
 
   pub span : (direction : Direction) (z t : Zone) (i : ℤ) → Alike z t → GoesOn t → IsWellIn tz first last i → InSpan direction z.reads i → InSpan direction t.reads i
   span Forward z t i a g inside h =
@@ -126,7 +126,7 @@ module _ (tz : TimeZone) (first last : ℤ) where
       λ j le. by_lt_z last j
       (λ late.
       let shown = a.same last (omega (arith, ints, inside.1)) (omega (arith, ints)) in
-      omega (arith, ints, h last (omega (arith, ints, inside.1)), shown, g.behind j late))
+      omega (arith, ints, h last (omega (arith, ints, inside.1)), shown, g.later j late))
       (λ to. omega (arith, ints, h j le, a.same j (omega (arith, ints)) to))
 
 -- every offset of jiff is less than 26 hours
@@ -188,7 +188,7 @@ goes_on tz first last t c = record {
       let is = shows_by tz first last i first t c (rw (lt_test i first early) refl) in
       let at = shows_by tz first last first first t c (own_nearest first last first (omega (arith, signed_arith)) c.window.order) in
       omega (arith, signed_arith, is, at, early);
-  behind = λ i late.
+  later = λ i late.
       let a = int_lt-false i first (omega (arith, signed_arith, late, c.window.order)) in
       let is = shows_by tz first last i last t c (rw (a, lt_test last i late) refl) in
       let at = shows_by tz first last last last t c (own_nearest first last last c.window.order (omega (arith, signed_arith))) in

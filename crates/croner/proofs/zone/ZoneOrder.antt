@@ -9,7 +9,7 @@ use Rattle.croner_base.specs.declared.time.value.Resolution.TheVariants.{Single,
 use Rattle.croner_base.specs.Civil.{wall_second}
 use Rattle.croner_base.specs.Zone.{Zone}
 use Rattle.croner_base.specs.Calm.{IsChange, IsCalm, jump}
-use Rattle.croner.specs.Private.search.Halves.{Break, BreaksBehind, HasTwin, EdgeOf}
+use Rattle.croner.specs.Private.search.Halves.{Break, BreaksBefore, HasTwin, EdgeOf}
 use Rattle.croner.specs.Private.search.Walk.{First}
 use Rattle.croner.proofs.zone.Ahead.{Direction, Forward, Backward, along, Precedes, Reaches, either, reaches-same, reaches_unless, precedes_unless, offset_from, one_on, along-offset, along-shift, both_ways}
 
@@ -59,13 +59,13 @@ pub record Turned (direction : Direction) (reads : ℤ → ℤ) (i j : ℤ) : Ty
   pub edge : ℤ
   pub low : Precedes direction i edge
   pub high : Reaches direction edge j
-  pub breaks : BreaksBehind direction reads edge
+  pub breaks : BreaksBefore direction reads edge
   pub little : (along direction (reads i) +ℤ (along direction j -ℤ along direction i)) ≤ℤ (along direction (reads j) +ℤ pos fold_limit)
 
 module _ (reads : ℤ → ℤ) where
-  -- a change by the instant right behind it
-  pub behind_next : (p : ℤ) → Break reads p → BreaksBehind Forward reads (p +ℤ pos 1)
-  behind_next p b = let same : p ≡ p +ℤ pos 1 -ℤ pos 1 = omega (arith, ints) in subst (Break reads) same b
+  -- a change by the instant right after it
+  pub before_next : (p : ℤ) → Break reads p → BreaksBefore Forward reads (p +ℤ pos 1)
+  before_next p b = let same : p ≡ p +ℤ pos 1 -ℤ pos 1 = omega (arith, ints) in subst (Break reads) same b
 
   -- between two instants the clock goes straight on, or it changes
   straight_or_break : (i j : ℤ) → i ≤ℤ j → (reads j ≡ reads i +ℤ (j -ℤ i)) ⊎ ((p : ℤ) × (i ≤ℤ p) × (p <ℤ j) × Break reads p)
@@ -74,11 +74,11 @@ module _ (reads : ℤ → ℤ) where
       (λ k line. elim (same_or_not (reads (k +ℤ pos 1)) (reads k +ℤ pos 1)) [ inl next ↦ inl (omega (arith, ints)) | inr b ↦ inr b ])
 
   line_or_break : (direction : Direction) (i j : ℤ) → Reaches direction i j
-      → IsLine direction reads i j ⊎ ((e : ℤ) × Precedes direction i e × Reaches direction e j × BreaksBehind direction reads e)
+      → IsLine direction reads i j ⊎ ((e : ℤ) × Precedes direction i e × Reaches direction e j × BreaksBefore direction reads e)
   line_or_break Forward i j h =
       elim (straight_or_break i j h) [
         | inl line ↦ inl (omega (arith, ints))
-        | inr (p, low, high, b) ↦ inr (p +ℤ pos 1, omega (arith, ints), omega (arith, ints), behind_next p b)
+        | inr (p, low, high, b) ↦ inr (p +ℤ pos 1, omega (arith, ints), omega (arith, ints), before_next p b)
       ]
   line_or_break Backward i j h =
       elim (straight_or_break j i (omega (arith, ints))) [
@@ -87,7 +87,7 @@ module _ (reads : ℤ → ℤ) where
       ]
 
   straight : (direction : Direction) (i j : ℤ) → Reaches direction i j
-      → ((e : ℤ) → Precedes direction i e → Reaches direction e j → BreaksBehind direction reads e → ⊥) → IsLine direction reads i j
+      → ((e : ℤ) → Precedes direction i e → Reaches direction e j → BreaksBefore direction reads e → ⊥) → IsLine direction reads i j
   straight direction i j h none = elim (line_or_break direction i j h) [ inl line ↦ line | inr (e, low, high, b) ↦ absurd (none e low high b) ]
 
   -- from an instant that shows less than w to one that shows w or more the clock passes w
@@ -101,18 +101,18 @@ module _ (reads : ℤ → ℤ) where
 
 module _ (reads : ℤ → ℤ) (calm : Calm reads) where
   -- changes lie far apart along each direction
-  breaks_apart : (direction : Direction) (d e : ℤ) → BreaksBehind direction reads d → BreaksBehind direction reads e → Precedes direction d e
+  breaks_apart : (direction : Direction) (d e : ℤ) → BreaksBefore direction reads d → BreaksBefore direction reads e → Precedes direction d e
       → (along direction d +ℤ pos apart_limit) <ℤ along direction e
   breaks_apart Forward d e a b h = omega (arith, ints, calm.apart (d -ℤ pos 1) (e -ℤ pos 1) a b (omega (arith, ints)))
   breaks_apart Backward d e a b h = omega (arith, ints, calm.apart e d b a (omega (arith, ints)))
 
-  -- up to a change the clock goes straight on, and so from right behind it
-  pub line_before : (direction : Direction) (e i j : ℤ) → BreaksBehind direction reads e → Reaches direction i j → Precedes direction j e
+  -- up to a change the clock goes straight on, and so from right after it
+  pub line_before : (direction : Direction) (e i j : ℤ) → BreaksBefore direction reads e → Reaches direction i j → Precedes direction j e
       → along direction e ≤ℤ (along direction i +ℤ pos (apart_limit + 1)) → IsLine direction reads i j
   line_before direction e i j b on before near =
       straight reads direction i j on (λ d low high other. omega (arith, ints, breaks_apart direction d e other b (omega (arith, ints))))
 
-  pub line_past : (direction : Direction) (e i j : ℤ) → BreaksBehind direction reads e → Reaches direction e i → Reaches direction i j
+  pub line_past : (direction : Direction) (e i j : ℤ) → BreaksBefore direction reads e → Reaches direction e i → Reaches direction i j
       → along direction j ≤ℤ (along direction e +ℤ pos apart_limit) → IsLine direction reads i j
   line_past direction e i j b from on near =
       straight reads direction i j on (λ d low high other. omega (arith, ints, breaks_apart direction e d b other (omega (arith, ints))))
@@ -170,20 +170,20 @@ module _ (reads : ℤ → ℤ) (calm : Calm reads) where
         | inr (e, low, high, b) ↦ record { edge = e; low = low; high = high; breaks = b; little = turns direction i j (omega (arith, ints)) le }
       ]
 
-  -- from right behind a change on, no reading lies before the first
-  pub past_break : (direction : Direction) (e i : ℤ) → BreaksBehind direction reads e → Reaches direction e i → Reaches direction (reads e) (reads i)
+  -- from right after a change on, no reading lies before the first
+  pub past_break : (direction : Direction) (e i : ℤ) → BreaksBefore direction reads e → Reaches direction e i → Reaches direction (reads e) (reads i)
   past_break direction e i breaks on =
       reaches_unless direction (reads e) (reads i)
       (λ back.
       let little = turns direction e i on (omega (arith, ints)) in
       omega (arith, ints, line_past direction e e i breaks (reaches-same direction e) on (omega (arith, ints))))
 
-  -- the same, of readings before a change and behind it
+  -- the same, of readings before a change and after it
   pub below_before : (p i : ℤ) → Break reads p → i ≤ℤ p → reads i ≤ℤ reads p
   below_before p i breaks h = omega (arith, ints, past_break Backward p i breaks (omega (arith, ints)))
 
   pub above_after : (p i : ℤ) → Break reads p → p <ℤ i → reads (p +ℤ pos 1) ≤ℤ reads i
-  above_after p i breaks h = past_break Forward (p +ℤ pos 1) i (behind_next reads p breaks) (omega (arith, ints))
+  above_after p i breaks h = past_break Forward (p +ℤ pos 1) i (before_next reads p breaks) (omega (arith, ints))
 
   -- the clock is not put back from i to j, and again from k to l, so near to each other
   pub not_twice : (direction : Direction) (i j k l : ℤ) → Precedes direction i j → Reaches direction (reads j) (reads i) → Reaches direction j k
@@ -196,10 +196,10 @@ module _ (reads : ℤ → ℤ) (calm : Calm reads) where
 -- ---- instants that show the same, and the edge of the other half of a repeated range
 
 module _ (direction : Direction) (reads : ℤ → ℤ) (calm : Calm reads) where
-  -- of two instants whose readings are not in order: one behind them that reads what the second reads
-  pub twin_behind : (i j : ℤ) → Precedes direction i j → Reaches direction (reads j) (reads i)
+  -- of two instants whose readings are not in order: one after them that reads what the second reads
+  pub twin_after : (i j : ℤ) → Precedes direction i j → Reaches direction (reads j) (reads i)
       → (x : ℤ) × Reaches direction x i × Reaches direction i (offset_from direction x fold_limit) × (reads x ≡ reads j)
-  twin_behind i j h le =
+  twin_after i j h le =
       let turn = put_back reads calm direction i j h le in
       let x : ℤ = i +ℤ (reads j -ℤ reads i) in
       let at = along-shift direction i (reads i) (reads j) in
@@ -207,9 +207,9 @@ module _ (direction : Direction) (reads : ℤ → ℤ) (calm : Calm reads) where
       let far = along-offset direction x fold_limit in
       (x, omega (arith, ints), omega (arith, ints, turn), both_ways direction (reads x) (reads j) (omega (arith, ints)) (omega (arith, ints)))
 
-  -- right behind the last instant of the own half, where the next has no other that shows the same ahead, the clock is put back
+  -- right after the last instant of the own half, where the next has no other that shows the same ahead, the clock is put back
   pub edge_breaks : (i j : ℤ) → along direction j ≡ along direction i +ℤ pos 1 → HasTwin direction reads i → (HasTwin direction reads j → ⊥)
-      → BreaksBehind direction reads j
+      → BreaksBefore direction reads j
   edge_breaks i j one (x, same, past) none =
       let shown = ap (along direction) same in
       let turn = put_back reads calm direction i x past (omega (arith, ints)) in
@@ -219,7 +219,7 @@ module _ (direction : Direction) (reads : ℤ → ℤ) (calm : Calm reads) where
         | inl line ↦
             let beyond = line_past reads calm direction turn.edge x y turn.breaks turn.high (omega (arith, ints)) (omega (arith, ints, turn)) in
             absurd (none (y, both_ways direction (reads y) (reads j) (omega (arith, ints)) (omega (arith, ints)), omega (arith, ints)))
-        | inr (e, low, high, breaks) ↦ subst (BreaksBehind direction reads) (both_ways direction e j high (omega (arith, ints))) breaks
+        | inr (e, low, high, breaks) ↦ subst (BreaksBefore direction reads) (both_ways direction e j high (omega (arith, ints))) breaks
       ]
 
   -- up to the edge of the other half the clock goes straight on
@@ -244,7 +244,7 @@ pub first_if_least : (reads : ℤ → ℤ) → Calm reads → (w t : ℤ) → re
 first_if_least reads calm w t e least = record {
   reached = omega (arith, ints);
   before = λ j h. precedes_unless Forward (reads j) w (λ le.
-      let (x, at_most, near, same) = twin_behind Forward reads calm j t h (omega (arith, ints)) in least x (omega (arith, ints)) (same ∙ e));
+      let (x, at_most, near, same) = twin_after Forward reads calm j t h (omega (arith, ints)) in least x (omega (arith, ints)) (same ∙ e));
 }
 
 pub firsts_in_order : (direction : Direction) (reads : ℤ → ℤ) (w v i j : ℤ) → Reaches direction w v → First reads w i → First reads v j → Reaches direction i j
@@ -265,7 +265,7 @@ module _ (direction : Direction) (reads : ℤ → ℤ) (calm : Calm reads) where
       precedes_unless direction (reads s) (reads i)
       (λ back. let (x, on, same) = twin_ahead direction reads calm s i past back in none (x, same, omega (arith, ints)))
 
-  -- what a walk meets is never behind, where it is the last in the direction that reads the second
+  -- what a walk meets never lies before the start, where it is the last in the direction that reads the second
   pub last_is_ahead : (s t w : ℤ) → Reaches direction (reads s) w → reads t ≡ w → ((x : ℤ) → reads x ≡ w → Reaches direction x t) → Reaches direction s t
   last_is_ahead s t w h e last =
       reaches_unless direction s t
@@ -280,7 +280,7 @@ module _ (direction : Direction) (reads : ℤ → ℤ) (calm : Calm reads) where
       reaches_unless direction t j
       (λ under.
       let back : Reaches direction (reads t) (reads j) = rw (e, f) (omega (arith, ints)) in
-      let (x, behind, near, same) = twin_behind direction reads calm j t under back in
+      let (x, behind, near, same) = twin_after direction reads calm j t under back in
       elim (either direction x s) [
         | inl past ↦ not_twice reads calm direction x s j t past (rw (same, e) from) on under back (omega (arith, ints, along-offset direction x fold_limit))
         | inr ahead ↦ omega (arith, ints, nearest x ahead (same ∙ e))

@@ -10,7 +10,7 @@ use Rattle.croner.specs.laws.Until.{ComesBy}
 use Rattle.croner.specs.declared.laws.listing.ListingEnd.{ListingEnd}
 use Rattle.croner.specs.declared.laws.listing.ListingEnd.TheVariants as ends
 
--- the call put its item behind the others; or it ended the listing, which keeps its items
+-- the call put its item after the others; or it ended the listing, which keeps its items
 abbrev pub TakesUntil : Option ℤ → Standing → Standing → List TableTime → List TableTime → Option ListingEnd → Type 0
 TakesUntil until old new before after None =
     (t : TableTime) × GivesItem old (table_moment t) new × ComesBy old.direction until t.second × (after ≡ before ++ t ∷ [])

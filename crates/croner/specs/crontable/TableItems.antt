@@ -27,12 +27,12 @@ pub record BeginsTableRest (s : TableStanding) (items : List (ℤ × List ℕ)) 
   pub places : HavePlaces s items
 
 -- between two standings of an iterator it gave the items: they go strictly in its direction, each was left before with just
--- its places, and what was left is among them or is left still, behind all of them
+-- its places, and what was left is among them or is left still, after all of them
 pub record GaveTable (old new : TableStanding) (items : List (ℤ × List ℕ)) : Type 0 where
   pub ordered : AllPairs (Precedes old.direction) (item_instants items)
   pub counts : All (IsTableLeft old) (item_instants items)
   pub either : (i : ℤ) → IsTableLeft old i → Contains (item_instants items) i ⊎ IsTableLeft new i
-  pub behind : (i : ℤ) → IsTableLeft new i → All (λ x. Precedes old.direction x i) (item_instants items)
+  pub later : (i : ℤ) → IsTableLeft new i → All (λ x. Precedes old.direction x i) (item_instants items)
   pub within : (i : ℤ) → IsTableLeft new i → IsTableLeft old i
   pub places : HavePlaces old items
 
@@ -45,7 +45,7 @@ GaveAllTable old items =
 abbrev pub table_items : {T : Type 0} → (T → Moment) → List (T × Vec ℕ Global) → List (ℤ × List ℕ)
 table_items moment items = map (λ item. ((moment item.0).instant, item.1.items)) items
 
--- a call put its item behind the others; or it gave none, and the mark says whether it kept no fault, so that nothing is left
+-- a call put its item after the others; or it gave none, and the mark says whether it kept no fault, so that nothing is left
 abbrev pub TakesTable : {T : Type 0} {d : _} {c : _} → (T → Moment) → CronTableIterator T d c → CronTableIterator T d c → List (T × Vec ℕ Global) → List (T × Vec ℕ Global) → Bool → Type 0
 TakesTable moment old new before after true =
     GivesNoTableItem (table_standing_of moment old) (table_standing_of moment new) × ((table_standing_of moment new).fault ≡ None) × (after ≡ before)

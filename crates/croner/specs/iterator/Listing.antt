@@ -87,12 +87,12 @@ Steps moment lack old None new = GivesNone lack (standing_of moment old) (standi
 Steps moment lack old (Some item) new = GivesItem (standing_of moment old) (moment item) (standing_of moment new)
 
 -- between two standings of an iterator it gave the items: they go strictly in its direction, each was left before, and what
--- was left is among them or is left still, behind all of them
+-- was left is among them or is left still, after all of them
 pub record Gave (old new : Standing) (items : List ℤ) : Type 0 where
   pub ordered : AllPairs (Precedes old.direction) items
   pub counts : All (IsLeft old) items
   pub either : (i : ℤ) → IsLeft old i → Contains items i ⊎ IsLeft new i
-  pub behind : (i : ℤ) → IsLeft new i → All (λ x. Precedes old.direction x i) items
+  pub later : (i : ℤ) → IsLeft new i → All (λ x. Precedes old.direction x i) items
   pub within : (i : ℤ) → IsLeft new i → IsLeft old i
 
 -- the items are all that was left in the span
@@ -103,7 +103,7 @@ GaveAll old items = (i : ℤ) → IsLeft old i → InSpan old.direction old.posi
 abbrev pub instants : {T : Type 0} → (T → Moment) → List T → List ℤ
 instants moment items = map (λ t. (moment t).instant) items
 
--- a call put its item behind the others; or it gave none, and the mark says whether it kept no fault, so that nothing is left
+-- a call put its item after the others; or it gave none, and the mark says whether it kept no fault, so that nothing is left
 abbrev pub Takes : {T : Type 0} → (T → Moment) → Bool → CronIterator T → CronIterator T → List T → List T → Bool → Type 0
 Takes moment lack old new before after true = GivesNone lack (standing_of moment old) (standing_of moment new) × ((standing_of moment new).fault ≡ None) × (after ≡ before)
 Takes {T} moment lack old new before after false =

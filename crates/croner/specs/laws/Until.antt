@@ -23,7 +23,7 @@ ComesBy direction (Some until) i = Reaches direction i until
 
 -- ---- of one pattern
 
--- all that the iterator gave: the items, and behind them the run past the second, where that one ended the listing
+-- all that the iterator gave: the items, and after them the run past the second, where that one ended the listing
 abbrev pub pulled : List ℤ → ListingEnd → List ℤ
 pulled items ends.Full = items
 pulled items (ends.Past i) = items ++ i ∷ []

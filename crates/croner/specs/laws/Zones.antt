@@ -6,7 +6,7 @@ use Rattle.croner_base.specs.ZoneTable.{IsWindow, ahead_at, nearest_in}
 use Rattle.croner.specs.crontable.TableListing.{TableStanding}
 use Rattle.croner.specs.iterator.Listing.{Standing}
 
--- so many seconds behind a window's first one no earlier reading of the zone comes again: two offsets differ by less
+-- so many seconds after a window's first one no earlier reading of the zone comes again: two offsets differ by less
 abbrev pub margin : ℕ
 margin = 180_000
 
@@ -17,7 +17,7 @@ day_margin = 172_800
 abbrev pub IsAtMostADayAhead : TimeZone → Type 0
 IsAtMostADayAhead tz = (i : ℤ) → ahead_at tz i ≤ℤ pos 86_400
 
--- a second of a window, so far behind its first
+-- a second of a window, so far after its first
 abbrev pub IsWellIn : TimeZone → ℤ → ℤ → ℤ → Type 0
 IsWellIn tz first last i =
     (((first +ℤ pos margin) ≤ℤ i) ⊎ (IsAtMostADayAhead tz × ((first +ℤ pos day_margin) ≤ℤ i))) × (i ≤ℤ last)

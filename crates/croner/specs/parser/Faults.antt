@@ -49,7 +49,7 @@ named_field text refusal = if contains_byte at_sign text then None else refused_
 
 -- ---- the place
 
--- the bytes from start to end are the whole word of that number, from 1: the words in front of it, it, and those behind it are
+-- the bytes from start to end are the whole word of that number, from 1: the words in front of it, it, and those after it are
 -- as many as the text has
 pub record IsWord (text : List ℕ) (number start end : ℕ) : Type 0 where
   pub one_word : words (slice_range text start end) ≡ slice_range text start end ∷ []
@@ -110,9 +110,9 @@ pub record IsCounted (s : Settings) (text : List ℕ) (start end : ℕ) : Type 0
 -- ---- an illegal character
 
 -- a name is legal in each field
-abbrev pub behind_name : Option Piece → List ℕ → List ℕ → List ℕ
-behind_name None other rest = other
-behind_name (Some name) other rest = rest
+abbrev pub after_name : Option Piece → List ℕ → List ℕ → List ℕ
+after_name None other rest = other
+after_name (Some name) other rest = rest
 
 -- a word in capitals from its first character on that the field doesn't take and that is in no name; nothing where it has none
 abbrev pub from_illegal : PatternField → List ℕ → List ℕ
@@ -120,7 +120,7 @@ from_illegal field [] = []
 from_illegal field (a ∷ []) = if takes field a then [] else a ∷ []
 from_illegal field (a ∷ b ∷ []) = if takes field a then (if takes field b then [] else b ∷ []) else a ∷ b ∷ []
 from_illegal field (a ∷ b ∷ c ∷ rest) =
-    behind_name (name_of (a ∷ b ∷ c ∷ [])) (if takes field a then from_illegal field (b ∷ c ∷ rest) else a ∷ b ∷ c ∷ rest) (from_illegal field rest)
+    after_name (name_of (a ∷ b ∷ c ∷ [])) (if takes field a then from_illegal field (b ∷ c ∷ rest) else a ∷ b ∷ c ∷ rest) (from_illegal field rest)
 
 -- the word of a field, in capitals; and what stands from a byte on to the end of its word
 abbrev pub word_of : List ℕ → PatternField → List ℕ

@@ -71,7 +71,7 @@ pub record Texts : Type 0 where
   pub days_of_week : List ℕ
   pub years : List ℕ
 
--- the words as fields: five get the seconds 0 in front, and five or six the year `*` behind
+-- the words as fields: five get the seconds 0 in front, and five or six the year `*` after
 abbrev pub seven : List (List ℕ) → Option Texts
 seven (a ∷ b ∷ c ∷ d ∷ e ∷ []) = Some (record { seconds = codes "0"; minutes = a; hours = b; days = c; months = d; days_of_week = e; years = codes "*" })
 seven (a ∷ b ∷ c ∷ d ∷ e ∷ f ∷ []) = Some (record { seconds = a; minutes = b; hours = c; days = d; months = e; days_of_week = f; years = codes "*" })
@@ -238,7 +238,7 @@ value_of s shape text = applied (reading_of s shape text).done (start_of s shape
 abbrev pub weekday_modifiers : List ℕ
 weekday_modifiers = plain_bit ∷ 2 ∷ 4 ∷ 8 ∷ 16 ∷ 32 ∷ last_bit ∷ []
 
--- Sunday behind Saturday
+-- Sunday after Saturday
 abbrev pub sunday_as_seven : ℕ
 sunday_as_seven = 7
 

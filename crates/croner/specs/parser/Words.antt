@@ -4,7 +4,7 @@ use Rattle.std.specs.List.{slice_split}
 use Rattle.std.specs.Char.{is_whitespace, is_not_whitespace}
 use Rattle.std.specs.Str.{NoCharPasses, EmptyOrStartsWithPassing, chars, encode_utf8_all}
 
--- the word stands first in the text, behind a gap, and the rest is empty or begins with white space
+-- the word stands first in the text, after a gap, and the rest is empty or begins with white space
 pub record StartsWith (text word rest : List ℕ) : Type 0 where
   pub gap : List ℕ
   pub spells : text ≡ gap ++ (word ++ rest)

@@ -9,7 +9,7 @@ ghost use Rattle.croner.specs.Private.crontable.Kept.{AreKept, IsHeld};
 use super::CronTable;
 use super::asked::search;
 use super::kept::Kept;
-use crate::iterator::{copied, fault_of};
+use crate::iterator::{copy_of_fault, fault_of};
 use crate::search::wall::is_within;
 use croner_base::errors::CronError;
 use croner_base::time::{CronDateTime, Direction};
@@ -164,7 +164,7 @@ impl<'t, T: CronDateTime> Clone for CronTableIterator<'t, T> {
             inclusive: self.inclusive,
             direction: self.direction,
             kept: Kept::new(self.table.alloc),
-            fault: copied(&self.fault),
+            fault: copy_of_fault(&self.fault),
         })
     }
 }

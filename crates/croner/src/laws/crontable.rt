@@ -64,7 +64,7 @@ pub fn next_table_runs<T: CronDateTime>(
 ///
 /// It is as [`next_runs_until`](crate::laws::listing::next_runs_until) for one pattern, each item with exactly the places that count
 /// at its instant. Here, however, a search also fails if there is no memory for an item's places. A run past the second was taken
-/// from the iterator, which goes on past it; an iterator [`resumed_table`] from the last item gives it again.
+/// from the iterator, which goes on past it; an iterator [`resume_table_after`] from the last item gives it again.
 ///
 /// The only error is `OutOfMemory`, since memory for `most` items is taken first; the iterator is then unchanged.
 pub fn next_table_runs_until<'t>(
@@ -93,7 +93,7 @@ pub fn next_table_runs_until<'t>(
 ///
 /// Whichever iterator over the same patterns and in the same direction gave the item, both have the same runs yet to give, each
 /// with the same places. So a listing can be resumed from any item that was kept.
-pub fn resumed_table<T: CronDateTime>(
+pub fn resume_table_after<T: CronDateTime>(
     table: &CronTable,
     item: T,
     direction: Direction,

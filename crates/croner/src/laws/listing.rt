@@ -86,7 +86,7 @@ pub fn next_runs<T: CronDateTime>(
 /// The items are the first that the iterator had yet to give, and each is a whole second. Calls are made until there are `most`
 /// items, a run lies past the second, or a call gives none. So either none is left out up to the second, or there are `most`, or a
 /// search failed. No search fails from a start around which the table holds enough. A run past the second was taken from the
-/// iterator, which goes on past it; an iterator [`resumed`] from the last item gives it again.
+/// iterator, which goes on past it; an iterator [`resume_after`] from the last item gives it again.
 ///
 /// The only error is `OutOfMemory`, since memory for `most` items is taken first; the iterator is then unchanged.
 pub fn next_runs_until<'t>(
@@ -114,7 +114,7 @@ pub fn next_runs_until<'t>(
 ///
 /// Whichever iterator for the same pattern and in the same direction gave the item, both have the same runs yet to give. So a
 /// listing can be resumed from any item that was kept.
-pub fn resumed<T: CronDateTime>(cron: Cron, item: T, direction: Direction) -> CronIterator<T>
+pub fn resume_after<T: CronDateTime>(cron: Cron, item: T, direction: Direction) -> CronIterator<T>
     ensures stands { standing_of T.moment result ≡ new_standing (meaning_of cron.pattern) (T.moment item) false direction }
     ensures same_rest { (s : Standing) → s.pattern ≡ meaning_of cron.pattern → s.direction ≡ direction → (i : ℤ) →
         IsLeft (moved s (T.moment item)) i ↔ IsLeft (new_standing (meaning_of cron.pattern) (T.moment item) false direction) i }

@@ -4,12 +4,12 @@ ghost use Rattle.std.specs.Prelude.{◌≡◌, IfOk, MatchOption};
 ghost use Rattle.std.specs.List.{list_all};
 ghost use Rattle.croner.specs.parser.Grammar.{is_list_character, is_for_days, is_for_weekdays, are_legal, takes, takes_all, without_sign, illegal_field, is_word_legal, illegal_word};
 ghost use Rattle.croner.specs.parser.Faults.{from_illegal};
-ghost use Rattle.croner.specs.Private.parser.Steps.{IsBehindLegal};
+ghost use Rattle.croner.specs.Private.parser.Steps.{IsAfterLegal};
 ghost use Rattle.croner.specs.Views.{texts_of};
 
 use super::fault::PatternField;
 use super::fields::FieldTexts;
-use super::prepare::{behind_name, replaced};
+use super::prepare::{replace_names, text_after_name};
 use super::settle::without_plus;
 use std::alloc::{AllocError, Global};
 
@@ -142,7 +142,7 @@ fn is_word_legal(
 ) -> Result<bool, AllocError>
     ensures { IfOk result (λ b. b ≡ is_word_legal quartz field word.now) }
 {
-    match replaced(alloc, word, quartz)? {
+    match replace_names(alloc, word, quartz)? {
         Some(text) => Ok(takes_all(field, without_sign(field, text.as_str()))),
         None => Ok(false),
     }
@@ -169,17 +169,17 @@ pub fn from_illegal(field: PatternField, word: &str) -> &str
     ensures { result.now ≡ from_illegal field word.now }
 {
     let mut rest = word;
-    while let Some(behind) = behind_legal(field, rest) {
-        rest = behind;
+    while let Some(after) = text_after_legal(field, rest) {
+        rest = after;
     }
     rest
 }
 
 /// What follows the name or the character that a text begins with, if the field accepts it.
-fn behind_legal(field: PatternField, text: &str) -> Option<&str>
-    ensures { MatchOption result (from_illegal field text.now ≡ text.now) (λ rest. IsBehindLegal field text.now rest.now) }
+fn text_after_legal(field: PatternField, text: &str) -> Option<&str>
+    ensures { MatchOption result (from_illegal field text.now ≡ text.now) (λ rest. IsAfterLegal field text.now rest.now) }
 {
-    if let Some(rest) = behind_name(text) {
+    if let Some(rest) = text_after_name(text) {
         return Some(rest);
     }
     match text.as_bytes() {

@@ -106,14 +106,14 @@ impl CronParser {
             return Ok(String::new(alloc));
         }
         let fault = self.fault_of(alloc, text, cause)?;
-        let (start, end) = repeated(text, &fault);
+        let (start, end) = bytes_to_repeat(text, &fault);
         let found = found_at(alloc, text, start, end)?;
         format!(in alloc; "{fault} Found: {found}.")
     }
 }
 
 /// The bytes that a message repeats: the fault's place, or the whole text if it has too few fields.
-fn repeated(text: &str, fault: &PatternFault) -> (usize, usize) {
+fn bytes_to_repeat(text: &str, fault: &PatternFault) -> (usize, usize) {
     match fault.expected {
         Expected::Count {
             hint: Hint::Setting | Hint::Comment | Hint::NoSecond | Hint::NoSecondAndYear,

@@ -81,7 +81,7 @@ pub enum Hint {
     /// A pattern ends before the command of a crontab's line.
     Command,
     /// A pattern ends before the command of a crontab's line, which comes after so many fields.
-    CommandBehind { fields: usize },
+    CommandAfter { fields: usize },
     /// These settings have no second: the first field is one too many.
     NoSecond,
     /// These settings have no year: the last field is one too many.
@@ -218,7 +218,7 @@ pub enum Expected {
     /// A number of the field before or after a sign, or a name for it.
     NumberBeside {
         sign: char,
-        behind: bool,
+        after: bool,
         least: u16,
         greatest: u16,
         names: ValueNames,
@@ -267,9 +267,9 @@ pub enum Expected {
     /// `L` alone, or `LW`, in the day of month: after a weekday it belongs in the weekday field.
     LastOfWeekday,
     /// One weekday before the `L`.
-    LastBehindWeekday,
+    LastAfterWeekday,
     /// One day of the month before the `W`.
-    NearestBehindDay,
+    NearestAfterDay,
     /// `LW`.
     LastNearest,
 }

@@ -75,13 +75,13 @@ impl Expected {
             }
             Expected::NumberBeside {
                 sign,
-                behind,
+                after,
                 least,
                 greatest,
                 names,
                 hint,
             } => {
-                let side = if behind { "behind" } else { "in front of" };
+                let side = if after { "behind" } else { "in front of" };
                 let value = AnyValue {
                     least,
                     greatest,
@@ -167,10 +167,10 @@ impl Expected {
             Expected::LastOfWeekday => {
                 "behind a weekday L stands in the field weekday: here it stands by itself between commas, for the last day of the month, or as LW, for the last one from Monday to Friday."
             }
-            Expected::LastBehindWeekday => {
+            Expected::LastAfterWeekday => {
                 "L stands behind one weekday: 5L is the last Friday of the month."
             }
-            Expected::NearestBehindDay => {
+            Expected::NearestAfterDay => {
                 "W stands behind one day of the month: 15W is the day from Monday to Friday that is nearest to the 15th."
             }
             Expected::LastNearest => "the last day of the month from Monday to Friday is LW.",
@@ -219,7 +219,7 @@ impl fmt::Display for Hint {
             Hint::AtSign { nickname } => {
                 write!(f, " A nickname begins with '@': write {nickname}.")
             }
-            Hint::CommandBehind { fields } => write!(
+            Hint::CommandAfter { fields } => write!(
                 f,
                 " If a user, a command or a comment stands behind the first {fields} fields, leave all of it out: a pattern ends before it."
             ),

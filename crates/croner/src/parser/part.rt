@@ -55,11 +55,11 @@ impl Rules {
     }
 
     /// A number of the field was expected beside a sign.
-    fn number_beside(self, sign: char, behind: bool) -> Expected {
+    fn number_beside(self, sign: char, after: bool) -> Expected {
         let (least, greatest) = self.bounds();
         Expected::NumberBeside {
             sign,
-            behind,
+            after,
             least,
             greatest,
             names: self.names(),
@@ -149,7 +149,7 @@ impl<'t> Part<'t> {
 pub fn fault_of_part(part: Part<'_>, rules: Rules) -> (Piece<'_>, Expected) {
     let head = head_of(part);
     let found = if part.read == "*" {
-        Some((part.written, alone(part)))
+        Some((part.written, expected_of_star(part)))
     } else if let Some(sides) = head.split('/') {
         fault_of_step(part, sides, rules)
     } else if let Some(sides) = head.split('-') {
@@ -166,7 +166,7 @@ pub fn fault_of_part(part: Part<'_>, rules: Rules) -> (Piece<'_>, Expected) {
 }
 
 /// What was expected of a `*`, or a `?` for it, with something beside it: that it be alone.
-fn alone(part: Part<'_>) -> Expected {
+fn expected_of_star(part: Part<'_>) -> Expected {
     if part.written.text == "?" {
         return Expected::QuestionAlone;
     }
@@ -201,11 +201,11 @@ fn fault_of_nth(part: Part<'_>) -> Option<(Piece<'_>, Expected)> {
 fn fault_of_side<'t>(
     side: Part<'t>,
     sign: Piece<'t>,
-    behind: bool,
+    after: bool,
     rules: Rules,
 ) -> Option<(Piece<'t>, Expected)> {
     if side.is_empty() {
-        return Some((sign, rules.number_beside('-', behind)));
+        return Some((sign, rules.number_beside('-', after)));
     }
     fault_of_value(side, rules)
 }
@@ -231,8 +231,8 @@ fn fault_of_value<'t>(value: Part<'t>, rules: Rules) -> Option<(Piece<'t>, Expec
 fn fault_of_modifier(value: Part<'_>, rules: Rules) -> Option<Expected> {
     match rules.field {
         PatternField::DayOfMonth if value.read.contains('L') => Some(Expected::LastAlone),
-        PatternField::DayOfMonth if value.read.contains('W') => Some(Expected::NearestBehindDay),
-        PatternField::Weekday if value.read.contains('L') => Some(Expected::LastBehindWeekday),
+        PatternField::DayOfMonth if value.read.contains('W') => Some(Expected::NearestAfterDay),
+        PatternField::Weekday if value.read.contains('L') => Some(Expected::LastAfterWeekday),
         _ => None,
     }
 }
@@ -277,7 +277,7 @@ fn fault_of_range<'t>(
             .saturating_add(sides.right.read.len())
             .saturating_add(1)
     {
-        around(sides.left, sides.right, rules)
+        suggestion_of_range(sides.left, sides.right, rules)
     } else {
         Suggestion::None
     };
@@ -285,7 +285,7 @@ fn fault_of_range<'t>(
 }
 
 /// A range that went past the greatest value, as ranges that go up. Years don't start over.
-fn around(left: Part<'_>, right: Part<'_>, rules: Rules) -> Suggestion {
+fn suggestion_of_range(left: Part<'_>, right: Part<'_>, rules: Rules) -> Suggestion {
     let (Some(first), Some(last)) = (left.number(), right.number()) else {
         return Suggestion::None;
     };
@@ -353,12 +353,15 @@ fn fault_of_step<'t>(
         )),
         Some(found) => Some(found),
         None if fault_of_nth(part).is_some() => None,
-        None => Some((sides.right.written, too_long(part, sides.left, rules))),
+        None => Some((
+            sides.right.written,
+            expected_of_long_step(part, sides.left, rules),
+        )),
     }
 }
 
 /// What to write in place of a step that reaches no second value.
-fn too_long(part: Part<'_>, left: Part<'_>, rules: Rules) -> Expected {
+fn expected_of_long_step(part: Part<'_>, left: Part<'_>, rules: Rules) -> Expected {
     if part.read.contains('#') {
         return Expected::ShorterStep;
     }
@@ -393,12 +396,12 @@ fn fault_of_start<'t>(
         return None;
     }
     if is_too_long(number, step, rules) {
-        return Some((part.written, too_long(part, left, rules)));
+        return Some((part.written, expected_of_long_step(part, left, rules)));
     }
     let suggestion = if part.read.contains('#') {
         Suggestion::None
     } else {
-        stepped(number, step, rules)
+        suggestion_of_step(number, step, rules)
     };
     Some((part.written, Expected::RangeToStep { suggestion }))
 }
@@ -407,16 +410,16 @@ fn fault_of_start<'t>(
 fn is_too_long(number: Option<u16>, step: u16, rules: Rules) -> bool {
     let (least, greatest) = rules.bounds();
     let first = number.unwrap_or(least);
-    let behind = greatest
+    let left_over = greatest
         .saturating_sub(first)
         .checked_rem(step)
         .unwrap_or(0);
-    let last = greatest.saturating_sub(behind);
+    let last = greatest.saturating_sub(left_over);
     last.checked_add(step).is_none()
 }
 
 /// A step from a number, or from nothing, as it may be written.
-fn stepped(number: Option<u16>, step: u16, rules: Rules) -> Suggestion {
+fn suggestion_of_step(number: Option<u16>, step: u16, rules: Rules) -> Suggestion {
     let (least, last) = rules.bounds();
     match number {
         Some(first) if first != least => Suggestion::RangeStep { first, last, step },
@@ -456,7 +459,7 @@ fn fault_of_number<'t>(
     }
     if let Some(last) = head.split('L').or(head.split('l')) {
         if last.left.is_empty() || !last.right.is_empty() {
-            return Some((part.written, Expected::LastBehindWeekday));
+            return Some((part.written, Expected::LastAfterWeekday));
         }
         return fault_of_value(last.left, rules);
     }

@@ -4,7 +4,7 @@ ghost use Rattle.std.specs.Prelude.{◌≡◌, Err, ◌++◌, ◌<◌, nat_le, B
 ghost use Rattle.croner_base.specs.Part.{contains_byte};
 ghost use Rattle.croner.specs.parser.Cut.{months, weekdays, place_of, name_of, decimal_of, is_lost, weekday_number, replaced};
 ghost use Rattle.croner.specs.parser.Grammar.{nickname_of, nicknamed, of_replaced};
-ghost use Rattle.croner.specs.Private.parser.Steps.{HasNoName, IsBehindName, IsShown, AdvancesOrLost, Prepares, refusal_of};
+ghost use Rattle.croner.specs.Private.parser.Steps.{HasNoName, IsAfterName, IsShown, AdvancesOrLost, Prepares, refusal_of};
 
 use super::CronParser;
 use super::characters::illegal_word;
@@ -27,7 +27,7 @@ impl CronParser {
         }
         let nickname = self.nickname(alloc, text)?;
         let full = text_or(&nickname, text);
-        match replaced(alloc, full, self.alternative_weekdays)? {
+        match replace_names(alloc, full, self.alternative_weekdays)? {
             Some(prepared) => Ok(prepared),
             None => {
                 let cause = self.cause_of_letter(alloc, full)?;
@@ -45,7 +45,7 @@ impl CronParser {
         }
         let seconds = self.seconds.is_required();
         let year = self.year.is_required();
-        let full = nicknamed(alloc, text, seconds, year)?;
+        let full = pattern_of_nickname(alloc, text, seconds, year)?;
         Ok(Some(full))
     }
 
@@ -99,7 +99,12 @@ fn nickname(text: &str) -> &str
 
 /// The pattern of a text with `@`: that of its nickname, if it is one, with the seconds before it and the year after
 /// it if they are required.
-pub fn nicknamed(alloc: Global, text: &str, seconds: bool, year: bool) -> Result<String, AllocError>
+pub fn pattern_of_nickname(
+    alloc: Global,
+    text: &str,
+    seconds: bool,
+    year: bool,
+) -> Result<String, AllocError>
     ensures { IfOk result (λ t. string_bytes t
         ≡ (if seconds then codes "0 " else []) ++ nickname_of text.now ++ (if year then codes " *" else [])) }
 {
@@ -166,8 +171,8 @@ fn number_of(name: &str, after_dash: bool, quartz: bool) -> Option<u8>
 }
 
 /// What follows the name that a text in capitals begins with; `None` if it begins with none.
-pub fn behind_name(text: &str) -> Option<&str>
-    ensures { MatchOption result (HasNoName text.now) (λ rest. IsBehindName text.now rest.now) }
+pub fn text_after_name(text: &str) -> Option<&str>
+    ensures { MatchOption result (HasNoName text.now) (λ rest. IsAfterName text.now rest.now) }
 {
     let Some((name, rest)) = text.split_at_checked(NAME_LENGTH) else {
         return None;
@@ -214,7 +219,7 @@ fn push_number(text: &mut String, number: u8) -> Result<(), AllocError>
 }
 
 /// Whether a letter means nothing by itself.
-pub fn is_lost(c: char) -> bool
+pub fn means_nothing(c: char) -> bool
     ensures { result ≡ is_lost c }
 {
     c.is_ascii_uppercase() && c != 'L' && c != 'W'
@@ -252,7 +257,7 @@ fn push_char<'t>(written: &mut String, text: &'t str) -> Result<Option<&'t str>,
 {
     let mut chars = text.chars();
     match chars.next() {
-        Some(c) if !is_lost(c) => {
+        Some(c) if !means_nothing(c) => {
             written.push(c)?;
             Ok(Some(chars.as_str()))
         }
@@ -261,7 +266,7 @@ fn push_char<'t>(written: &mut String, text: &'t str) -> Result<Option<&'t str>,
 }
 
 /// The text with a number in place of each name, in one pass; `None` if a letter is left that means nothing.
-pub fn replaced(alloc: Global, text: &str, quartz: bool) -> Result<Option<String>, AllocError>
+pub fn replace_names(alloc: Global, text: &str, quartz: bool) -> Result<Option<String>, AllocError>
     ensures { IfOk result (λ t. option_map string_bytes t ≡ replaced quartz false text.now) }
 {
     let mut written = String::with_capacity(alloc, text.len())?;

@@ -13,8 +13,8 @@ use super::fault::{Expected, Hint, PatternField};
 use super::part::{Part, Rules, fault_of_part};
 use super::pieces::{Finding, Piece};
 use super::place::{counted_word, place_of_word};
-use super::prepare::{NAME_LENGTH, has_byte, name_at, replaced};
-use super::settle::starred;
+use super::prepare::{NAME_LENGTH, has_byte, name_at, replace_names};
+use super::settle::replace_questions;
 use super::stop::{Cause, Stop};
 use super::{CronParser, Seconds, Year};
 use std::alloc::{AllocError, Global};
@@ -26,7 +26,7 @@ const WORDS_WITH_SECONDS: usize = 6;
 const LEAST_FIELDS: usize = 5;
 
 /// The whole text, for a fault.
-fn whole(text: &str, expected: Expected) -> Finding
+fn finding_of_whole(text: &str, expected: Expected) -> Finding
     ensures starts { result.start ≡ 0 }
     ensures ends { result.end ≡ length text.now }
 {
@@ -50,7 +50,7 @@ pub fn find_fault(
     ensures { IfOk result (λ found. IsFound parser.now text.now (refusal_of cause) found.start found.end) }
 {
     match cause {
-        Cause::Empty => Ok(whole(text, Expected::Pattern)),
+        Cause::Empty => Ok(finding_of_whole(text, Expected::Pattern)),
         Cause::Invalid => wrong_count(alloc, parser, text, words),
         Cause::Illegal(field) => illegal_character(alloc, parser, text, words, field),
         Cause::Component(field, part) => refused_part(alloc, parser, text, words, field, part),
@@ -72,7 +72,7 @@ fn wrong_count(
 {
     let most = parser.most_fields();
     if most == 0 {
-        return Ok(whole(text, Expected::Settings));
+        return Ok(finding_of_whole(text, Expected::Settings));
     }
     let expected = Expected::Count {
         found: words.len(),
@@ -81,7 +81,7 @@ fn wrong_count(
         hint: hint_of_count(alloc, parser, text, words, most)?,
     };
     if has_byte(text, b'@') {
-        return Ok(whole(text, nickname_fault(words, expected, parser)));
+        return Ok(finding_of_whole(text, nickname_fault(words, expected, parser)));
     }
     let number = counted_word(parser, words.len());
     let Some(word) = words.get(number.saturating_sub(1)) else {
@@ -265,7 +265,7 @@ fn hint_of_command(alloc: Global, words: &[Piece<'_>], most: usize) -> Result<Hi
             continue;
         }
         if place < most {
-            return Ok(Hint::CommandBehind { fields: place });
+            return Ok(Hint::CommandAfter { fields: place });
         }
         return Ok(Hint::Command);
     }
@@ -426,7 +426,7 @@ struct Illegal {
     start: usize,
     end: usize,
     name: Option<&'static str>,
-    is_behind_value: bool,
+    is_after_value: bool,
     is_in_word: bool,
 }
 
@@ -481,9 +481,9 @@ impl Illegal {
     fn is_sign_of_value(self, hint: Hint) -> bool {
         match hint {
             Hint::SignElsewhere { .. } => {
-                self.c == '?' || self.is_behind_value && !self.is_in_word
+                self.c == '?' || self.is_after_value && !self.is_in_word
             }
-            Hint::Dash => self.is_behind_value,
+            Hint::Dash => self.is_after_value,
             _ => false,
         }
     }
@@ -561,8 +561,8 @@ fn illegal_in_word(
 {
     let raised = word.text.to_ascii_uppercase(alloc)?;
     let at = illegal_at(word.text, raised.as_str(), field);
-    let (_, behind) = word.text.split_at(at);
-    let Some(c) = behind.chars().next() else {
+    let (_, after) = word.text.split_at(at);
+    let Some(c) = after.chars().next() else {
         return Ok(None);
     };
     let end = at + c.len_utf8();
@@ -572,7 +572,7 @@ fn illegal_in_word(
         start: word.start + at,
         end: word.start + end,
         name,
-        is_behind_value: name.is_some() || is_behind_value(raised.as_str(), at),
+        is_after_value: name.is_some() || is_after_value(raised.as_str(), at),
         is_in_word: name.is_some() || is_before_letter(raised.as_str(), end, c),
     }))
 }
@@ -592,7 +592,7 @@ fn name_before(raised: &str, at: usize) -> Option<&'static str> {
 }
 
 /// Whether a number or an `L` ends at a byte of a text in capitals.
-fn is_behind_value(raised: &str, at: usize) -> bool {
+fn is_after_value(raised: &str, at: usize) -> bool {
     match raised.get(..at) {
         Some(front) => front.ends_with(ends_value),
         None => false,
@@ -679,7 +679,7 @@ fn part_from(list: Piece<'_>, part: usize) -> Option<Piece<'_>>
     requires { list.start + length list.text.now < 2 ^ 64 }
     ensures { has_part part list.entry.text.now ≡ true → IsSomeAnd result (λ p. IsPartIn list.entry.text.now list.entry.start part p) }
 {
-    let Some((text, behind)) = list.text.split_once(',') else {
+    let Some((text, after)) = list.text.split_once(',') else {
         return if part == 0 { Some(list) } else { None };
     };
     if part == 0 {
@@ -689,10 +689,7 @@ fn part_from(list: Piece<'_>, part: usize) -> Option<Piece<'_>>
         });
     }
     let start = list.start + text.len() + 1;
-    let rest = Piece {
-        text: behind,
-        start,
-    };
+    let rest = Piece { text: after, start };
     part_from(rest, part - 1)
 }
 
@@ -703,11 +700,11 @@ fn hint_of(year: Year, field: PatternField, words: &[Piece<'_>], place: usize) -
         None => "",
     };
     let word = text_at(words, place);
-    let behind = text_at(words, place.saturating_add(1));
+    let after = text_at(words, place.saturating_add(1));
     if before.ends_with(',') || word.ends_with(',') || word.starts_with(',') {
         return Hint::SpaceAfterComma;
     }
-    if goes_on(before, word) || goes_on(word, behind) {
+    if goes_on(before, word) || goes_on(word, after) {
         return Hint::SpaceInPart;
     }
     if words.len() != WORDS_WITH_SECONDS {
@@ -757,11 +754,11 @@ fn is_year(word: &str) -> bool {
 /// A part as the field reads it: in capitals, with numbers for names and `*` for `?`.
 fn as_read(alloc: Global, part: &str, quartz: bool) -> Result<String, AllocError> {
     let raised = part.to_ascii_uppercase(alloc)?;
-    let numbers = replaced(alloc, raised.as_str(), quartz)?;
+    let numbers = replace_names(alloc, raised.as_str(), quartz)?;
     let Some(numbers) = numbers else {
         return Ok(raised);
     };
-    match starred(alloc, numbers.as_str())? {
+    match replace_questions(alloc, numbers.as_str())? {
         Some(starred) => Ok(starred),
         None => Ok(numbers),
     }

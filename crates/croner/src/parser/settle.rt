@@ -56,8 +56,8 @@ impl CronParser {
         ensures { IfOk result (λ f. IsSettled (texts_of written.entry) f × (f.and ≡ (self.now.both_days || has_plus (texts_of written.entry).days_of_week))) }
     {
         let weekdays = without_plus(written.days_of_week);
-        let days = starred(alloc, written.days)?;
-        let days_of_week = starred(alloc, weekdays)?;
+        let days = replace_questions(alloc, written.days)?;
+        let days_of_week = replace_questions(alloc, weekdays)?;
         let and = self.joins(written.days_of_week);
         Ok(Settled {
             days,
@@ -95,7 +95,7 @@ pub fn without_plus(text: &str) -> &str
 }
 
 /// The text with `*` in place of each `?`, if it has one.
-pub fn starred(alloc: Global, text: &str) -> Result<Option<String>, AllocError>
+pub fn replace_questions(alloc: Global, text: &str) -> Result<Option<String>, AllocError>
     ensures { IfOk result (λ t. MatchOption t (starred text.now ≡ text.now) (λ t. string_bytes t ≡ starred text.now)) }
 {
     if !has_byte(text, b'?') {

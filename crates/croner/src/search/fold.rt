@@ -8,7 +8,7 @@ ghost use Rattle.croner.specs.search.Premises.{IsCalmStart, IsSearchable};
 ghost use Rattle.croner.specs.Private.search.Halves.{edge_limit, HasTwin, IsEdge, offset_from};
 ghost use Rattle.croner.specs.Private.search.Held.{HoldsSecond, IsBackendError};
 
-use crate::search::instant::{moved, opposite, precedes};
+use crate::search::instant::{instant_on, opposite_way, precedes};
 use crate::search::wall::is_within;
 use croner_base::errors::CronError;
 use croner_base::time::{CivilDateTime, CronDateTime, Direction, Resolution};
@@ -69,7 +69,7 @@ pub(crate) fn other_edge<T: CronDateTime>(
             outside = middle;
         }
     }
-    let edge = moved(alloc, start, outside, direction)?;
+    let edge = instant_on(alloc, start, outside, direction)?;
     Ok(Some(edge))
 }
 
@@ -88,7 +88,7 @@ fn is_offset_on_first_half<T: CronDateTime>(
     ensures err { IfErr result (IsBackendError T.can_lack_memory
         (IsCalmStart (T.moment start.now).zone (T.moment start.now).fraction → ¬ (HoldsAround (T.moment start.now)))) }
 {
-    let there = moved(alloc, start, seconds, direction)?;
+    let there = instant_on(alloc, start, seconds, direction)?;
     is_on_first_half(alloc, &there, there.to_civil(), direction)
 }
 
@@ -108,7 +108,7 @@ pub(crate) fn is_in_span<T: CronDateTime>(
     if !is_within(shown, direction) {
         return Ok(false);
     }
-    let back = opposite(direction);
+    let back = opposite_way(direction);
     if !is_on_first_half(alloc, run, shown, back)? {
         return Ok(true);
     }

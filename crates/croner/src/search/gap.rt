@@ -136,7 +136,7 @@ impl<'s, T: CronDateTime> SideSearch<'s, T> {
             return Ok(None);
         };
         while around.outside - around.inside > 1 {
-            around = self.narrowed(around);
+            around = self.narrow(around);
         }
         let side = around.answer?;
         Ok(Some(side))
@@ -154,8 +154,8 @@ impl<'s, T: CronDateTime> SideSearch<'s, T> {
     {
         let mut inside: u32 = 0;
         while inside < limit {
-            let outside = doubled(inside, limit);
-            match self.beyond(outside) {
+            let outside = double(inside, limit);
+            match self.probe_beyond(outside) {
                 Some(answer) => {
                     return Some(Around {
                         inside,
@@ -170,7 +170,7 @@ impl<'s, T: CronDateTime> SideSearch<'s, T> {
     }
 
     // The same with half the seconds between the two.
-    fn narrowed(&self, around: Around<T>) -> Around<T>
+    fn narrow(&self, around: Around<T>) -> Around<T>
         requires searched { IsSearched (wall_second self.now.skipped) }
         requires wide { around.inside + 1 < around.outside }
         requires around { IsAround T.moment T.can_lack_memory self.now.direction (T.moment self.now.time.now).zone (wall_second self.now.skipped) around }
@@ -178,7 +178,7 @@ impl<'s, T: CronDateTime> SideSearch<'s, T> {
         ensures nearer { result.outside - result.inside < around.outside - around.inside }
     {
         let middle = around.inside + (around.outside - around.inside) / 2;
-        match self.beyond(middle) {
+        match self.probe_beyond(middle) {
             Some(answer) => Around {
                 inside: around.inside,
                 outside: middle,
@@ -192,7 +192,7 @@ impl<'s, T: CronDateTime> SideSearch<'s, T> {
     }
 
     // What the backend answers for the second so many seconds on; `None` where that lies in a gap too.
-    fn beyond(&self, seconds: u32) -> Option<Beyond<T>>
+    fn probe_beyond(&self, seconds: u32) -> Option<Beyond<T>>
         requires searched { IsSearched (wall_second self.now.skipped) }
         requires near { seconds ≤ gap_limit }
         ensures { MatchOption result
@@ -212,7 +212,7 @@ impl<'s, T: CronDateTime> SideSearch<'s, T> {
 }
 
 // Twice as far and a second, at most at the limit.
-fn doubled(seconds: u32, limit: u32) -> u32
+fn double(seconds: u32, limit: u32) -> u32
     requires { seconds < limit }
     ensures farther { seconds < result }
     ensures near { result ≤ limit }

@@ -23,7 +23,7 @@ pub(crate) fn precedes<T: CronDateTime>(one: &T, other: &T, direction: Direction
 }
 
 /// The other direction.
-pub(crate) fn opposite(direction: Direction) -> Direction
+pub(crate) fn opposite_way(direction: Direction) -> Direction
     ensures { result ≡ opposite_way direction }
 {
     match direction {
@@ -33,7 +33,7 @@ pub(crate) fn opposite(direction: Direction) -> Direction
 }
 
 /// The value so many elapsed seconds on; InvalidTime where the backend does not hold it.
-pub(crate) fn moved<T: CronDateTime>(
+pub(crate) fn instant_on<T: CronDateTime>(
     alloc: Global,
     from: &T,
     seconds: u32,

@@ -20,7 +20,7 @@ ghost use Rattle.croner.specs.Private.search.Halves.{CountsBoth, HasOtherHalf, I
 ghost use Rattle.croner.specs.Private.search.Sought.{start_of, sought, IsAnswerOf, IsRefusalOf};
 
 use crate::search::fold::{is_on_first_half, other_edge};
-use crate::search::instant::{moved, opposite, precedes};
+use crate::search::instant::{instant_on, opposite_way, precedes};
 use crate::search::wall::is_within;
 use croner_base::errors::CronError;
 use croner_base::time::{CivilDateTime, CronDateTime, Direction};
@@ -133,7 +133,7 @@ impl<'s, T: CronDateTime, S: Schedule> Search<'s, T, S> {
         let Some(edge) = self.other_half()? else {
             return Err(CronError::TimeSearchLimitExceeded);
         };
-        let own_last = moved(self.alloc, &edge, 1, opposite(self.direction))?;
+        let own_last = instant_on(self.alloc, &edge, 1, opposite_way(self.direction))?;
         if !is_within(own_last.to_civil(), self.direction) {
             return Err(CronError::TimeSearchLimitExceeded);
         }

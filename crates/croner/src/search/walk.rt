@@ -12,7 +12,7 @@ ghost use Rattle.croner.specs.Private.search.Walk.{CannotMove, HasWalked, IsWalk
 ghost use Rattle.croner.specs.Private.search.Sought.{start_of, sought, HasComeTo, PassesTo};
 
 use super::{Schedule, Search};
-use crate::search::instant::{moved, precedes};
+use crate::search::instant::{instant_on, precedes};
 use crate::search::wall::one_second_on;
 use croner_base::errors::CronError;
 use croner_base::time::{CivilDateTime, CronDateTime, Direction, Resolution};
@@ -34,15 +34,16 @@ pub(crate) enum Passed<T> {
 }
 
 impl<'s, T: CronDateTime, S: Schedule> Search<'s, T, S> {
-    // Whether an instant lies behind the start by a second or more: a start with a fraction keeps its own second in play.
+    // Whether an instant comes before the start in the direction by a second or more: a start with a fraction keeps its own
+    // second in play.
     #[tactic(auto, using(std::proofs::lemmas::Int::ints))]
-    fn is_behind(&self, instant: &T) -> Result<bool, CronError>
+    fn is_before_start(&self, instant: &T) -> Result<bool, CronError>
         ensures value { (start_of T.moment self.now).fraction ≡ 0 → (T.moment instant.now).fraction ≡ 0
             → IfOk result (λ b. IsTrue b
             ↔ Precedes self.now.direction (T.moment instant.now).instant (start_of T.moment self.now).instant) }
         ensures err { IfErr result (IsBackendError T.can_lack_memory (CannotMove self.now.direction (T.moment instant.now))) }
     {
-        let second_on = moved(self.alloc, instant, 1, self.direction)?;
+        let second_on = instant_on(self.alloc, instant, 1, self.direction)?;
         Ok(!precedes(self.start, &second_on, self.direction))
     }
 
@@ -59,25 +60,25 @@ impl<'s, T: CronDateTime, S: Schedule> Search<'s, T, S> {
         }
     }
 
-    // The nearer of two that is not behind the start, or else the other.
-    fn nearer(&self, near: T, far: T) -> Result<Option<T>, CronError>
+    // The nearer of two that is not before the start, or else the other.
+    fn nearer_of(&self, near: T, far: T) -> Result<Option<T>, CronError>
         ensures value { (start_of T.moment self.now).fraction ≡ 0 → (T.moment near).fraction ≡ 0 → (T.moment far).fraction ≡ 0
             → IfOk result (NearerOf T.moment self.now.direction (start_of T.moment self.now).instant near far) }
         ensures one { IfOk result (IsOneOf near far) }
         ensures err { IfErr result (IsBackendError T.can_lack_memory
             (CannotMove self.now.direction (T.moment near) ⊎ CannotMove self.now.direction (T.moment far))) }
     {
-        if !self.is_behind(&near)? {
+        if !self.is_before_start(&near)? {
             return Ok(Some(near));
         }
-        if !self.is_behind(&far)? {
+        if !self.is_before_start(&far)? {
             return Ok(Some(far));
         }
         Ok(None)
     }
 
-    // The one of a second's two instants that the job takes, where it is not behind the start.
-    fn chosen(&self, earlier: T, later: T) -> Result<Option<T>, CronError>
+    // The one of a second's two instants that the job takes, where it is not before the start.
+    fn choose(&self, earlier: T, later: T) -> Result<Option<T>, CronError>
         requires { S.shaped self.now.schedule.now }
         ensures value { (start_of T.moment self.now).fraction ≡ 0 → (T.moment earlier).fraction ≡ 0 → (T.moment later).fraction ≡ 0
             → IfOk result (ChosenOf T.moment (S.timetable self.now.schedule.now).fixed_time self.now.direction (start_of T.moment self.now).instant earlier later) }
@@ -86,14 +87,14 @@ impl<'s, T: CronDateTime, S: Schedule> Search<'s, T, S> {
             (CannotMove self.now.direction (T.moment earlier) ⊎ CannotMove self.now.direction (T.moment later))) }
     {
         if self.schedule.is_fixed_time() {
-            if self.is_behind(&earlier)? {
+            if self.is_before_start(&earlier)? {
                 return Ok(None);
             }
             return Ok(Some(earlier));
         }
         match self.direction {
-            Direction::Forward => self.nearer(earlier, later),
-            Direction::Backward => self.nearer(later, earlier),
+            Direction::Forward => self.nearer_of(earlier, later),
+            Direction::Backward => self.nearer_of(later, earlier),
         }
     }
 
@@ -107,7 +108,7 @@ impl<'s, T: CronDateTime, S: Schedule> Search<'s, T, S> {
         ensures err { IfErr result (IsBackendError T.can_lack_memory
             (IsCalm (start_of T.moment self.now).zone → ¬ (HoldsYears (start_of T.moment self.now).zone))) }
     {
-        match self.chosen(earlier, later)? {
+        match self.choose(earlier, later)? {
             Some(answer) => Ok(Passed::Answer(answer)),
             None => match one_second_on(found, self.direction) {
                 Some(next) => Ok(Passed::GoOn(next)),

@@ -5,7 +5,7 @@ use Rattle.cronplan.specs.declared.jobs.Gathering.{Gathering}
 use Rattle.cronplan.specs.declared.listing.Schedule.{Schedule}
 use Rattle.cronplan.specs.declared.span.Span.{Span}
 use Rattle.cronplan.specs.declared.start.JobStart.{JobStart}
-use Rattle.cronplan.specs.Starts.{earlier}
+use Rattle.cronplan.specs.Starts.{earlier_of}
 use Rattle.cronplan.specs.Counts.{count_of}
 use Rattle.cronplan.specs.Jobs.{Seen, IsSeen, shown_of, named_of, end_with}
 
@@ -19,7 +19,7 @@ pub record Names (place : ℕ) (starts : List JobStart) (old new : Gathering) : 
 pub record Shows (starts : List JobStart) (upto : ℤ) (old new : Gathering) : Type 0 where
   pub shown : new.shown.items ≡ old.shown.items ++ starts
   pub named : new.frequent.items ≡ old.frequent.items
-  pub end : new.end ≡ earlier old.end (Some upto)
+  pub end : new.end ≡ earlier_of old.end (Some upto)
 
 -- the job at this place is shown or named
 pub record AddsJob (z : Zone) (span : Span) (most : Option ℕ) (place : ℕ) (schedule : Schedule) (old new : Gathering) : Type 0 where

@@ -43,8 +43,8 @@ abbrev pub is_lower : Meeting → Meeting → Bool
 is_lower a b = is_lt (slice_cmp nat_cmp a.jobs.items b.jobs.items)
 
 -- of meetings those with the jobs of one
-abbrev pub alike : Meeting → List Meeting → List Meeting
-alike m meetings = filter (ties is_lower m) meetings
+abbrev pub meetings_with_jobs : Meeting → List Meeting → List Meeting
+meetings_with_jobs m meetings = filter (ties is_lower m) meetings
 
 -- the meetings of starts by their jobs, those with the same jobs in the order of their moments
 pub record AreByJobs (starts : List JobStart) (meetings : List Meeting) : Type 0 where
@@ -65,7 +65,7 @@ sets_in sets = map (λ t. t.jobs.items) sets
 
 -- all meetings with the jobs of one, which is the first of them: those before a place have lower ones
 pub record IsNewGroup (meetings : List Meeting) (place : ℕ) (m : Meeting) (group : List Meeting) : Type 0 where
-  pub group_is : group ≡ alike m meetings
+  pub group_is : group ≡ meetings_with_jobs m meetings
   pub first_is : slice_get group 0 ≡ Some m
   pub lower : All (λ x. is_lower x m ≡ true) (take place meetings)
 
@@ -74,8 +74,8 @@ pub record IsSetOf (meetings : List Meeting) (t : Together) : Type 0 where
   pub meeting : Meeting
   pub has : Contains meetings meeting
   pub jobs_are : t.jobs.items ≡ meeting.jobs.items
-  pub count_is : t.moments ≡ length (alike meeting meetings)
-  pub first_is : slice_get (map (λ m. m.moment) (alike meeting meetings)) 0 ≡ Some t.first
+  pub count_is : t.moments ≡ length (meetings_with_jobs meeting meetings)
+  pub first_is : slice_get (map (λ m. m.moment) (meetings_with_jobs meeting meetings)) 0 ≡ Some t.first
 
 -- the sets of the meetings before a place, each once
 pub record AreSetsUntil (place : ℕ) (meetings : List Meeting) (sets : List Together) : Type 0 where

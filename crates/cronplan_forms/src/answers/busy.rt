@@ -30,10 +30,10 @@ pub struct ShownMoment {
 pub fn busy_text(alloc: Global, view: View<'_>, most: usize) -> Result<String, AllocError>
     ensures { IfOk result (λ t. (shown : List ShownMoment) × (hours : List ℕ) × IsBusy (table_zone view.entry.table.now) view.entry.plan.now most shown hours × (string_bytes t ≡ busy_text shown hours)) }
 {
-    let moments = view.plan.fullest(alloc, most)?;
+    let moments = view.plan.fullest_moments(alloc, most)?;
     let shown = shown_moments(alloc, view.table, moments.as_slice())?;
     let hours = hour_counts(alloc, view.plan)?;
-    text_of(alloc, shown.as_slice(), hours.as_slice())
+    text_of_moments(alloc, shown.as_slice(), hours.as_slice())
 }
 
 // What the clock of a table shows at moments.
@@ -58,7 +58,7 @@ fn shown_moment(table: &ClockTable, moment: Moment) -> ShownMoment
 {
     ShownMoment {
         moment,
-        at: ClockTime::at(table, moment.second),
+        at: ClockTime::shown_at(table, moment.second),
     }
 }
 
@@ -74,7 +74,11 @@ fn hour_counts(alloc: Global, plan: &Plan) -> Result<Vec<u64>, AllocError>
     Ok(hours)
 }
 
-fn text_of(alloc: Global, moments: &[ShownMoment], hours: &[u64]) -> Result<String, AllocError>
+fn text_of_moments(
+    alloc: Global,
+    moments: &[ShownMoment],
+    hours: &[u64],
+) -> Result<String, AllocError>
     requires { length hours.now ≤ 24 }
     ensures { IfOk result (λ t. string_bytes t ≡ busy_text moments.now hours.now) }
 {

@@ -35,7 +35,7 @@ pub fn quiet_text(alloc: Global, view: View<'_>, least: u64) -> Result<String, A
     ensures { IfOk result (λ t. (told : List ShownWindow) × AreTold (table_zone view.entry.table.now) view.entry.plan.now least told × (string_bytes t ≡ quiet_text least told)) }
 {
     let told = told_windows(alloc, view, least)?;
-    text_of(alloc, told.as_slice(), least)
+    text_of_windows(alloc, told.as_slice(), least)
 }
 
 /// What the clock of a table shows at the sides of windows. The only error is lack of memory.
@@ -60,12 +60,12 @@ fn shown_window(table: &ClockTable, window: Window) -> ShownWindow
 {
     ShownWindow {
         window,
-        from: ClockTime::at(table, window.from.second),
-        until: ClockTime::at(table, window.until.second),
+        from: ClockTime::shown_at(table, window.from.second),
+        until: ClockTime::shown_at(table, window.until.second),
     }
 }
 
-fn text_of(alloc: Global, windows: &[ShownWindow], least: u64) -> Result<String, AllocError>
+fn text_of_windows(alloc: Global, windows: &[ShownWindow], least: u64) -> Result<String, AllocError>
     ensures { IfOk result (λ t. string_bytes t ≡ quiet_text least windows.now) }
 {
     let runs = window_runs(alloc, windows)?;

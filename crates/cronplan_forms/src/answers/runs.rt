@@ -31,7 +31,7 @@ pub(crate) fn told_windows(
 ) -> Result<Vec<ShownWindow>, AllocError>
     ensures { IfOk result (λ told. AreTold (table_zone view.entry.table.now) view.entry.plan.now least told.items) }
 {
-    let windows = view.plan.quiet(alloc, least)?;
+    let windows = view.plan.quiet_windows(alloc, least)?;
     let mut told = shown_windows(alloc, view.table, windows.as_slice())?;
     told.sort_unstable_by_key(|shown| {
         (

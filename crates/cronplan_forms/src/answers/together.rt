@@ -2,7 +2,7 @@
 ghost use Rattle.std.specs.Prelude.{◌≡◌, ◌++◌, IfOk, List, OnOk, map, string_bytes};
 ghost use Rattle.std.specs.List.{All};
 ghost use Rattle.croner_base.specs.TableZone.{table_zone};
-ghost use Rattle.cronplan_forms.specs.Answers.{IsShownSet, IsTogetherShown, labels_of, label_at, label_text, added_label, joined, joined_behind, set_line, set_lines, times_text, together_text};
+ghost use Rattle.cronplan_forms.specs.Answers.{IsShownSet, IsTogetherShown, labels_of, label_at, label_text, added_label, joined, joined_after, set_line, set_lines, times_text, together_text};
 
 use crate::clock::ClockTime;
 use crate::job::Job;
@@ -25,9 +25,9 @@ pub struct ShownSet<'s> {
 pub fn together_text(alloc: Global, view: View<'_>) -> Result<String, AllocError>
     ensures { IfOk result (λ t. (shown : List ShownSet) × IsTogetherShown (table_zone view.entry.table.now) view.entry.plan.now shown × (string_bytes t ≡ together_text (labels_of view.entry.jobs.now) shown)) }
 {
-    let sets = view.plan.together(alloc)?;
+    let sets = view.plan.sets_together(alloc)?;
     let shown = shown_sets(alloc, view.table, sets.as_slice())?;
-    text_of(alloc, view.jobs, shown.as_slice())
+    text_of_sets(alloc, view.jobs, shown.as_slice())
 }
 
 // What the clock of a table shows when jobs first start together.
@@ -52,11 +52,15 @@ fn shown_set<'s>(table: &ClockTable, set: &'s Together) -> ShownSet<'s>
 {
     ShownSet {
         set,
-        first: ClockTime::at(table, set.first.second),
+        first: ClockTime::shown_at(table, set.first.second),
     }
 }
 
-fn text_of(alloc: Global, jobs: &[Job<'_>], sets: &[ShownSet<'_>]) -> Result<String, AllocError>
+fn text_of_sets(
+    alloc: Global,
+    jobs: &[Job<'_>],
+    sets: &[ShownSet<'_>],
+) -> Result<String, AllocError>
     ensures { IfOk result (λ t. string_bytes t ≡ together_text (labels_of jobs.now) sets.now) }
 {
     if sets.is_empty() {
@@ -111,9 +115,9 @@ fn push_labels(text: &mut String, jobs: &[Job<'_>], places: &[usize]) -> Result<
     }
 }
 
-#[tactic(auto, using(crate::proofs::WeekParts::labels_step), unfolding(crate::specs::Answers::joined_behind))]
+#[tactic(auto, using(crate::proofs::WeekParts::labels_step), unfolding(crate::specs::Answers::joined_after))]
 fn push_others(text: &mut String, jobs: &[Job<'_>], places: &[usize]) -> Result<(), AllocError>
-    ensures { OnOk result (string_bytes text.new ≡ string_bytes text.old ++ joined_behind (labels_of jobs.now) places.now) }
+    ensures { OnOk result (string_bytes text.new ≡ string_bytes text.old ++ joined_after (labels_of jobs.now) places.now) }
 {
     for place in places {
         push_added(text, jobs, *place)?;

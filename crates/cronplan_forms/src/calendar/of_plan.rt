@@ -99,14 +99,14 @@ fn event_of<'v>(utc: &ClockTable, jobs: &[Job<'v>], start: JobStart) -> Event<'v
     ensures of { IsEventOf jobs.now result }
 {
     Event {
-        job: numbered_job(jobs, start.job),
+        job: job_with_number(jobs, start.job),
         start,
-        utc: ClockTime::at(utc, start.second).civil,
+        utc: ClockTime::shown_at(utc, start.second).civil,
     }
 }
 
 // The job at a place, with how many equal ones come before it.
-fn numbered_job<'v>(jobs: &[Job<'v>], place: usize) -> Job<'v>
+fn job_with_number<'v>(jobs: &[Job<'v>], place: usize) -> Job<'v>
     ensures { IfSome (slice_get jobs.now place) (λ job. result ≡ record job { equal = equal_before place job jobs.now }) }
 {
     match jobs.get(place) {

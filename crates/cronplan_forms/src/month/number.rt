@@ -14,7 +14,7 @@ use std::fmt;
 
 const MONTHS_PER_YEAR: i64 = 12;
 
-/// The days from a Monday to the Sunday behind it.
+/// The days from a Monday to the Sunday after it.
 const MONDAY_TO_SUNDAY: u32 = 6;
 
 const DAYS_PER_WEEK: u32 = 7;
@@ -22,7 +22,7 @@ const DAYS_PER_WEEK: u32 = 7;
 /// A month of a year of 32 bits. As a text it is `March 2027`.
 #[derive(Debug, Clone, Copy)]
 pub(crate) struct MonthNumber {
-    /// How many months it comes behind January of year 0, negative before it.
+    /// How many months it comes after January of year 0, negative before it.
     pub number: i64,
     ghost held: { IsMonthNumber number },
 }
@@ -33,13 +33,13 @@ impl MonthNumber {
         ensures { result.number ≡ month_of date.civil }
     {
         match date.civil {
-            Some(civil) => MonthNumber::at(civil.date()),
+            Some(civil) => MonthNumber::of_date(civil.date()),
             None => MonthNumber { number: 0 },
         }
     }
 
     // The month of a date of a year of 32 bits.
-    fn at(date: CivilDate) -> MonthNumber
+    fn of_date(date: CivilDate) -> MonthNumber
         ensures { result.number ≡ date.year *ℤ pos 12 +ℤ pos date.month -ℤ pos 1 }
     {
         let number = i64::from(date.year()) * MONTHS_PER_YEAR + i64::from(date.month()) - 1;
@@ -57,7 +57,7 @@ impl MonthNumber {
     }
 
     /// The month so many months later.
-    pub(crate) fn later(self, months: u64) -> MonthNumber
+    pub(crate) fn months_later(self, months: u64) -> MonthNumber
         requires { IsMonthNumber (self.number +ℤ pos months) }
         ensures { result.number ≡ self.number +ℤ pos months }
     {

@@ -12,7 +12,7 @@ ghost use Rattle.cronplan_forms.specs.Private.DatedTitles.{AreByDate};
 ghost use Rattle.cronplan_forms.specs.Private.Grids.{AddsMonth, HasMonths};
 
 use super::number::MonthNumber;
-use super::titles::{by_date, daily_of, titles_of, titles_on};
+use super::titles::{daily_of, titles_by_date, titles_of, titles_on};
 use super::{Month, MonthDay, Titled, month_text, push_daily};
 use crate::apart::push_apart;
 use crate::date_name::DateName;
@@ -48,7 +48,7 @@ pub fn months_text(alloc: Global, view: View<'_>) -> Result<String, AllocError>
 {
     let jobs = view.plan.job_dates(alloc, view.table)?;
     let titles = titles_of(alloc, view.jobs, jobs.rarer.as_slice())?;
-    let titles = by_date(titles)?;
+    let titles = titles_by_date(titles)?;
     let daily = daily_of(alloc, view.jobs, jobs.daily.as_slice())?;
     let told = Told {
         dates: jobs.dates,
@@ -61,7 +61,7 @@ pub fn months_text(alloc: Global, view: View<'_>) -> Result<String, AllocError>
     Ok(text)
 }
 
-// Puts behind a text what the mark of a day means, where it stands.
+// Puts after a text what the mark of a day means, where it stands.
 fn push_mark(text: &mut String, is_marked: bool) -> Result<(), AllocError>
     ensures { OnOk result (string_bytes text.new ≡ string_bytes text.old ++ mark_text is_marked) }
 {
@@ -95,7 +95,7 @@ fn grids_between(
         is_marked: false,
     };
     for place in 0..first.months_until(last) {
-        push_grid(alloc, &mut grids, told, first.later(place))?;
+        push_grid(alloc, &mut grids, told, first.months_later(place))?;
     }
     Ok(grids)
 }

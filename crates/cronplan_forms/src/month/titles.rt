@@ -25,7 +25,7 @@ pub(crate) fn titles_of<'v>(
     Ok(titles)
 }
 
-// Puts the title of a start behind the others, if its job is there.
+// Puts the title of a start after the others, if its job is there.
 fn push_start<'v>(
     titles: &mut Vec<Titled<'v>>,
     jobs: &[Job<'v>],
@@ -62,7 +62,7 @@ pub(crate) fn daily_of<'v>(
     Ok(daily)
 }
 
-// Puts what is told of the job at a place behind the others, if it is there.
+// Puts what is told of the job at a place after the others, if it is there.
 fn push_place<'v>(
     daily: &mut Vec<Daily<'v>>,
     jobs: &[Job<'v>],
@@ -87,7 +87,7 @@ fn push_job<'v>(daily: &mut Vec<Daily<'v>>, job: &Job<'v>) -> Result<(), AllocEr
 }
 
 /// The same titles in order of their dates, those on one date in the order that they had.
-pub(crate) fn by_date(mut titles: Vec<Titled<'_>>) -> Result<Vec<Titled<'_>>, AllocError>
+pub(crate) fn titles_by_date(mut titles: Vec<Titled<'_>>) -> Result<Vec<Titled<'_>>, AllocError>
     ensures order { IfOk result (λ sorted. AreByDate sorted.items) }
     ensures same { IfOk result (λ sorted. HaveSameDates titles.entry.items sorted.items) }
 {

@@ -1,7 +1,7 @@
 //! The changes of a clock below a picture.
 ghost use Rattle.std.specs.Prelude.{◌≡◌, ◌++◌, IfOk, OnOk, map, string_bytes};
 ghost use Rattle.std.specs.List.{All};
-ghost use Rattle.cronplan_forms.specs.Weeks.{kind_text, IsShownChange, IsNamedWall, behind, is_put_forward, change_line, change_lines, forward_text, back_text};
+ghost use Rattle.cronplan_forms.specs.Weeks.{kind_text, IsShownChange, IsNamedWall, expected_wall, is_put_forward, change_line, change_lines, forward_text, back_text};
 
 use crate::answers::Starts;
 use crate::clock::{TimeOfDay, second_of_day};
@@ -50,7 +50,7 @@ impl fmt::Display for NamedWall {
 pub struct ShownChange {
     pub change: ClockChange,
     /// What would follow what the clock showed last.
-    pub behind: NamedWall,
+    pub expected: NamedWall,
     /// What it shows at the change.
     pub shown: NamedWall,
     /// How many starts there are at the change.
@@ -78,25 +78,25 @@ pub(crate) fn shown_changes(
 fn shown_change(change: ClockChange, starts: u64) -> ShownChange
     ensures change { result.change ≡ change }
     ensures starts { result.starts ≡ starts }
-    ensures behind { IsNamedWall (behind result.change) result.behind }
+    ensures expected { IsNamedWall (expected_wall result.change) result.expected }
     ensures shown { IsNamedWall result.change.shown result.shown }
 {
     ShownChange {
         change,
-        behind: NamedWall::of(behind(change)),
+        expected: NamedWall::of(expected_wall(change)),
         shown: NamedWall::of(change.shown),
         starts,
     }
 }
 
 // The wall second that would follow what the clock showed last.
-fn behind(change: ClockChange) -> i64
-    ensures { result ≡ behind change }
+fn expected_wall(change: ClockChange) -> i64
+    ensures { result ≡ expected_wall change }
 {
     change.before.saturating_add(1)
 }
 
-/// Puts a line for each of these behind a text. The only error is want of memory; what then stands behind the text is not said.
+/// Puts a line for each of these after a text. The only error is want of memory; what then stands after the text is not said.
 #[tactic(auto, using(crate::proofs::WeekParts::changes_step), unfolding(crate::specs::Weeks::change_lines))]
 pub(crate) fn push_changes(text: &mut String, changes: &[ShownChange]) -> Result<(), AllocError>
     ensures { OnOk result (string_bytes text.new ≡ string_bytes text.old ++ change_lines changes.now) }
@@ -121,11 +121,11 @@ fn push_change(text: &mut String, change: ShownChange) -> Result<(), AllocError>
 fn push_kind(text: &mut String, change: ShownChange) -> Result<(), AllocError>
     ensures { OnOk result (string_bytes text.new ≡ string_bytes text.old ++ kind_text change) }
 {
-    let (behind, shown) = (change.behind, change.shown);
+    let (expected, shown) = (change.expected, change.shown);
     if is_put_forward(change.change) {
-        push_forward(text, behind, shown)
+        push_forward(text, expected, shown)
     } else {
-        push_back(text, behind, shown)
+        push_back(text, expected, shown)
     }
 }
 
@@ -136,15 +136,15 @@ fn is_put_forward(change: ClockChange) -> bool
 }
 
 #[tactic(auto, unfolding(crate::specs::Weeks::forward_text))]
-fn push_forward(text: &mut String, behind: NamedWall, shown: NamedWall) -> Result<(), AllocError>
-    ensures { OnOk result (string_bytes text.new ≡ string_bytes text.old ++ forward_text behind shown) }
+fn push_forward(text: &mut String, expected: NamedWall, shown: NamedWall) -> Result<(), AllocError>
+    ensures { OnOk result (string_bytes text.new ≡ string_bytes text.old ++ forward_text expected shown) }
 {
-    write!(text, "the clock skips {behind} to {shown}")
+    write!(text, "the clock skips {expected} to {shown}")
 }
 
 #[tactic(auto, unfolding(crate::specs::Weeks::back_text))]
-fn push_back(text: &mut String, behind: NamedWall, shown: NamedWall) -> Result<(), AllocError>
-    ensures { OnOk result (string_bytes text.new ≡ string_bytes text.old ++ back_text behind shown) }
+fn push_back(text: &mut String, expected: NamedWall, shown: NamedWall) -> Result<(), AllocError>
+    ensures { OnOk result (string_bytes text.new ≡ string_bytes text.old ++ back_text expected shown) }
 {
-    write!(text, "the clock shows {shown} to {behind} twice")
+    write!(text, "the clock shows {shown} to {expected} twice")
 }

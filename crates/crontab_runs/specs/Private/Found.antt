@@ -14,7 +14,7 @@ use Rattle.crontab_runs.specs.Private.Known.{IsKnown}
 use Rattle.crontab_runs.specs.Searches.{IsStartOf}
 use Rattle.crontab_runs.specs.Starts.{CronJob, StartsTimes, Starts}
 use Rattle.crontab_runs.specs.Views.{cron_job_of}
-use Rattle.crontab_runs.specs.Private.Parts.{least_minute, minute_from, IsBehind, IsIn, NoStart, IsNearestStart}
+use Rattle.crontab_runs.specs.Private.Parts.{least_minute, minute_from, IsAfterBegin, IsIn, NoStart, IsNearestStart}
 
 -- the job and the zone of a search
 abbrev pub job_in : Part → CronJob
@@ -27,8 +27,8 @@ abbrev pub least_in : Part → ℤ
 least_in p = least_minute p.job.now.is_starred p.stretch.begin p.stretch.offset p.stretch.before
 
 -- its instants after the first second of the stretch, and with it
-abbrev pub Behind : Part → ℤ → Type 0
-Behind p = IsBehind p.direction p.stretch.begin p.stretch.end p.from
+abbrev pub AfterBegin : Part → ℤ → Type 0
+AfterBegin p = IsAfterBegin p.direction p.stretch.begin p.stretch.end p.from
 
 abbrev pub Within : Part → ℤ → Type 0
 Within p = IsIn p.direction p.stretch.begin p.stretch.end p.from

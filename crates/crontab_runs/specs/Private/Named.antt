@@ -10,7 +10,7 @@ NoneNamedBetween names after before = (k : ℤ) → after <ℤ k → k <ℤ befo
 -- the first that is begins with the wall second w
 pub record IsFirstNamedBetween (names : ℤ → Type 0) (after before w : ℤ) : Type 0 where
   pub begins : w ≡ minute_of w *ℤ pos 60
-  pub behind : after <ℤ minute_of w
+  pub later : after <ℤ minute_of w
   pub ahead : minute_of w <ℤ before
   pub named : names (minute_of w)
   pub first : (j : ℤ) → after <ℤ j → names j → minute_of w ≤ℤ j

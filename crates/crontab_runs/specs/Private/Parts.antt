@@ -17,8 +17,8 @@ least_minute starred begin offset before =
 
 -- the least minute that something can be started for from the first second on: the one that is shown there, or the one after the greatest
 -- before
-abbrev pub least_behind : ℤ → ℤ → ℤ → ℤ
-least_behind begin offset before = int_min (minute_of (begin +ℤ offset)) (minute_of before +ℤ pos 1)
+abbrev pub least_after_begin : ℤ → ℤ → ℤ → ℤ
+least_after_begin begin offset before = int_min (minute_of (begin +ℤ offset)) (minute_of before +ℤ pos 1)
 
 -- the minute from which one is sought, from a wall second on: forward the first that begins there or later, and no lesser one than the
 -- least
@@ -33,8 +33,8 @@ pub record IsMinuteStart (job : CronJob) (offset before i m : ℤ) : Type 0 wher
   pub fresh : (job.starred ≡ true) ⊎ (minute_of before <ℤ m)
 
 -- an instant after the first second of a stretch, from one on
-abbrev pub IsBehind : Direction → ℤ → ℤ → ℤ → ℤ → Type 0
-IsBehind direction begin end from i = (begin <ℤ i) × (i <ℤ end) × Reaches direction from i
+abbrev pub IsAfterBegin : Direction → ℤ → ℤ → ℤ → ℤ → Type 0
+IsAfterBegin direction begin end from i = (begin <ℤ i) × (i <ℤ end) × Reaches direction from i
 
 -- an instant of a stretch, from one on
 abbrev pub IsIn : Direction → ℤ → ℤ → ℤ → ℤ → Type 0

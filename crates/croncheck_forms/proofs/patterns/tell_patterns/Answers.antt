@@ -8,7 +8,7 @@ pub loop-k-preserved : goal.loop-k-preserved
 loop-k-preserved g c =
     let within : c.loop-k.k < length c.args.words.now = search rules in
     next_told (λ word. word.now) (TellsPattern c.args.terms.now.settings.now c.args.answer) _ _ _ c.args.words.now c.loop-k.k _ _ within refl c.loop-k.invariant
-    (so_refused c.args.terms.now.settings.now c.args.answer _ _ _ _ _ c.either-has_refused.ensures (c.in_ok-refused.ensures c.loop-k.has_refused))
+    (so_refused c.args.terms.now.settings.now c.args.answer _ _ _ _ _ c.is_any_refused-has_refused.ensures (c.in_ok-refused.ensures c.loop-k.has_refused))
 
 pub returns : goal.returns
 returns g c =

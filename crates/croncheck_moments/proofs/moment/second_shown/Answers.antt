@@ -16,8 +16,8 @@ returns-in-Some c =
     let second = c.in-Some.second in
     let fits : FitsSigned w64 second = search rules in
     let shown : IsShownIn tz c.args.civil (Some second) =
-    shown_first tz c.args.civil c.if_shown.result second c.in-Some.is
-    (c.if_shown.ensures (earlier_offset offsets) (at_offset (λ (d : DateTime) (o : Offset). IsInstantAt d o c.earlier.result) c.args.civil _ _ offsets earlier_offset
+    shown_first tz c.args.civil c.second_if_shown.result second c.in-Some.is
+    (c.second_if_shown.ensures (earlier_offset offsets) (at_offset (λ (d : DateTime) (o : Offset). IsInstantAt d o c.earlier.result) c.args.civil _ _ offsets earlier_offset
     c.to_ambiguous_timestamp-found.ensures.datetime c.to_ambiguous_timestamp-found.ensures.offsets c.earlier.ensures)) in
     subst (λ (s : ℤ). IsShownIn tz c.args.civil (Some s)) (sym (to_z-of_z w64 second fits)) shown
 
@@ -27,6 +27,6 @@ returns-in-None c =
     let offsets = ambiguous_at tz c.args.civil in
     let same = c.to_ambiguous_timestamp-found.ensures.datetime in
     let given = c.to_ambiguous_timestamp-found.ensures.offsets in
-    shown_second tz c.args.civil c.if_shown.result c.if_shown-in-None.result c.in-None.is
-    (c.if_shown.ensures (earlier_offset offsets) (at_offset (λ (d : DateTime) (o : Offset). IsInstantAt d o c.earlier.result) c.args.civil _ _ offsets earlier_offset same given c.earlier.ensures))
-    (c.if_shown-in-None.ensures (later_offset offsets) (at_offset (λ (d : DateTime) (o : Offset). IsInstantAt d o c.later.result) c.args.civil _ _ offsets later_offset same given c.later.ensures))
+    shown_second tz c.args.civil c.second_if_shown.result c.second_if_shown-in-None.result c.in-None.is
+    (c.second_if_shown.ensures (earlier_offset offsets) (at_offset (λ (d : DateTime) (o : Offset). IsInstantAt d o c.earlier.result) c.args.civil _ _ offsets earlier_offset same given c.earlier.ensures))
+    (c.second_if_shown-in-None.ensures (later_offset offsets) (at_offset (λ (d : DateTime) (o : Offset). IsInstantAt d o c.later.result) c.args.civil _ _ offsets later_offset same given c.later.ensures))

@@ -17,6 +17,6 @@ loop-run-preserved c =
       counted = λ date. counted-step date runs i run _ _ inside c.run-item.is (c.in_ok-count.ensures.added date) (c.loop-run.invariant.counted date);
       fits = λ date. omega (arith, c.loop-run.invariant.fits date, c.in_ok-count.ensures.few date);
       most = most-step runs i run (λ (date : ℤ). unwrap_or (get int_cmp c.loop-run.counts date) 0) (λ (date : ℤ). unwrap_or (get int_cmp c.add_run.new.counts date) 0)
-          c.loop-run.most c.in_ok-count.count c.greater-most.result inside c.run-item.is c.in_ok-count.ensures.added c.loop-run.invariant.counted
-          c.in_ok-count.ensures.count c.greater-most.ensures c.loop-run.invariant.most;
+          c.loop-run.most c.in_ok-count.count c.greater_of-most.result inside c.run-item.is c.in_ok-count.ensures.added c.loop-run.invariant.counted
+          c.in_ok-count.ensures.count c.greater_of-most.ensures c.loop-run.invariant.most;
     }

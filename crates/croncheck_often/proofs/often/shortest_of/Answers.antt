@@ -7,5 +7,5 @@ pub loop-run-preserved : goal.loop-run-preserved
 loop-run-preserved c =
     let inside : c.loop-run.run-index < length c.args.runs.now = omega arith in
     let fits : FitsSigned w64 c.second.result = search rules in
-    seen-step c.args.runs.now c.loop-run.run-index c.run-item.result c.loop-run.before c.loop-run.shortest c.distance_of.result c.shorter-shortest.result _ inside
-    c.run-item.is c.loop-run.invariant c.distance_of.ensures c.shorter-shortest.ensures (to_z-of_z w64 c.second.result fits ∙ c.second.ensures.value)
+    seen-step c.args.runs.now c.loop-run.run-index c.run-item.result c.loop-run.before c.loop-run.shortest c.distance_of.result c.shorter_of-shortest.result _ inside
+    c.run-item.is c.loop-run.invariant c.distance_of.ensures c.shorter_of-shortest.ensures (to_z-of_z w64 c.second.result fits ∙ c.second.ensures.value)

@@ -14,7 +14,7 @@ pub loop-word-preserved : goal.loop-word-preserved
 loop-word-preserved c =
     let t = YieldsList-turn (YieldsList-from_str_split 32 c.args.text.now (lit< tt) (cc) (cc) (cc)) c.loop-word.yielded _ c.loop-word.yielded_by _ _ c.in-Some.word c.in-Some.is c.next.ensures.steps in
     rw (length_push c.loop-word.yielded c.in-Some.word)
-    (next_word_put c.args.most c.args.between.now (string_bytes c.loop-word.lines) (string_bytes c.push_word.new.lines) c.loop-word.used (words_of c.args.text.now) (length c.loop-word.yielded) c.in-Some.word.now c.front_of.result.now c.used_with.result _ t.0 t.1 (search rules) c.front_of.ensures c.used_with.ensures c.loop-word.invariant)
+    (next_word_put c.args.most c.args.between.now (string_bytes c.loop-word.lines) (string_bytes c.push_word.new.lines) c.loop-word.used (words_of c.args.text.now) (length c.loop-word.yielded) c.in-Some.word.now c.front_of.result.now c.length_with_word.result _ t.0 t.1 (search rules) c.front_of.ensures c.length_with_word.ensures c.loop-word.invariant)
 
 pub returns : goal.returns
 returns c =

@@ -14,7 +14,7 @@ loop-k-preserved g c =
     (λ name. string_bytes name) (λ m. IsToldEntry g.F.Form.takes g.F.Form.ends_file c.args.kinds.now m (asked_seen c.args.folder))
     c.args.names.now c.loop-k.k c.index-names-k.result c.index-names-k.result _ _
     (state_of g.W.Write.contents c.entry_fails.new.sink.form c.entry_fails.new.sink.progress c.entry_fails.new.sink.output)
-    c.loop-k.is_failed c.in_ok-fails.fails c.any-is_failed.result within is c.any-is_failed.ensures
+    c.loop-k.is_failed c.in_ok-fails.fails c.either_failed-is_failed.result within is c.either_failed-is_failed.ensures
     c.loop-k.invariant
     (λ m has ok. subst (λ (name : List ℕ). IsToldEntry g.F.Form.takes g.F.Form.ends_file c.args.kinds.now m (asked_seen c.args.folder)
     (state_of g.W.Write.contents c.loop-k.sink.form c.loop-k.sink.progress c.loop-k.sink.output) name

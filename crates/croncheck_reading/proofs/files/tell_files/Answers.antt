@@ -11,7 +11,7 @@ loop-k-preserved g c =
     let within : c.loop-k.k < length c.args.files.now = search rules in
     so_far_next (HaveContents (g.S.Sources.holds c.args.sources.now) (g.S.Sources.says_unfit c.args.sources.now) (g.S.Sources.says_folder c.args.sources.now) (g.S.Sources.lists c.args.sources.now))
     asked_seen (IsToldAsked g.F.Form.takes g.F.Form.ends_file c.args.kinds.now) c.args.files.now c.loop-k.k _ _ _ _ _
-    c.loop-k.is_failed c.in_ok-fails.fails c.any-is_failed.result within refl c.any-is_failed.ensures c.loop-k.invariant
+    c.loop-k.is_failed c.in_ok-fails.fails c.either_failed-is_failed.result within refl c.either_failed-is_failed.ensures c.loop-k.invariant
     (λ m has ok. told_of g.F.Form.takes g.F.Form.ends_file c.args.kinds.now m _ c.is_folder.result c.sort_of-sort.result _ _ c.sort_of-sort.ensures
     (has.folders _ c.is_folder.result c.is_folder.ensures) (c.in_ok-fails.ensures m has ok))
 

@@ -12,6 +12,6 @@ returns c =
     let zone = plain_zone c.args.zone.now in
     let fits : FitsSigned w64 c.args.first = search rules in
     let same = to_z-of_z w64 c.args.first fits in
-    stop_at zone c.args.first c.args.behind c.loop-gap.calm c.loop-gap.gap c.requires.window kept.within small
+    stop_at zone c.args.first c.args.to_last c.loop-gap.calm c.loop-gap.gap c.requires.window kept.within small
     (subst (λ (f : ℤ). IsCalmWindow zone f (f +ℤ pos c.loop-gap.calm)) same kept.is_calm)
     (subst (λ (f : ℤ). ¬ (IsCalmWindow zone f (f +ℤ pos (c.loop-gap.calm + c.loop-gap.gap)))) same kept.not_calm)

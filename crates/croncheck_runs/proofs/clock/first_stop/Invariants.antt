@@ -5,7 +5,7 @@ use Rattle.croncheck_runs.proofs.clock.first_stop.Given as goal
 
 abbrev pub invariant-loop-gap : goal.invariant-loop-gap
 invariant-loop-gap l = record {
-  within : l.calm + l.gap ≤ l.fn.behind;
+  within : l.calm + l.gap ≤ l.fn.to_last;
   is_calm : IsCalmWindow (plain_zone l.fn.zone) l.fn.first (l.fn.first +ℤ pos l.calm);
   not_calm : ¬ (IsCalmWindow (plain_zone l.fn.zone) l.fn.first (l.fn.first +ℤ pos (l.calm + l.gap)));
 }

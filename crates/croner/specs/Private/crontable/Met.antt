@@ -29,7 +29,7 @@ met_of met = record { nearest = met.nearest; places = met.places.items; is_limit
 abbrev pub new_met : {T : Type 0} → MetAnswers T
 new_met = record { nearest = None; places = []; is_limited = false }
 
--- how an answer lies to the nearest so far: before it in the direction, where there is one; at the same instant; or behind it
+-- how an answer lies to the nearest so far: before it in the direction, where there is one; at the same instant; or after it
 abbrev pub IsOrdered : {T : Type 0} → (T → Moment) → Direction → T → Option T → Ordering → Type 0
 IsOrdered moment direction found None Less = ⊤
 IsOrdered moment direction found (Some nearest) Less = Precedes direction (nanos_of (moment found)) (nanos_of (moment nearest))

@@ -42,7 +42,7 @@ HasCauseInSight text refusal = contains_byte at_sign text ≡ false → HasCause
 abbrev pub Follows : List ℕ → Type 0
 Follows rest = (more : List ℕ) × EmptyOrStartsWithPassing is_whitespace rest more
 
--- a text up to a byte has these words, and the rest stands behind them
+-- a text up to a byte has these words, and the rest stands after them
 pub record IsWalked (text : List ℕ) (ws : List (List ℕ)) (from : ℕ) (rest : List ℕ) : Type 0 where
   pub done : List ℕ
   pub spells : text ≡ done ++ rest
@@ -56,9 +56,9 @@ pub record IsWordFrom (text : List ℕ) (place start : ℕ) (word : List ℕ) : 
   pub ws : List (List ℕ)
   pub from : ℕ
   pub rest : List ℕ
-  pub behind : List ℕ
+  pub after : List ℕ
   pub walked : IsWalked text ws from rest
-  pub first : StartsWith rest word behind
+  pub first : StartsWith rest word after
   pub its_place : length ws ≡ place
   pub its_start : from + length first.gap ≡ start
 

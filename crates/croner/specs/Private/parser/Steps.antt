@@ -62,8 +62,8 @@ pub record IsSettled (written : Texts) (s : Settled) : Type 0 where
 -- ---- the cut
 
 -- a text in front of another, where there is one
-abbrev pub behind : List ℕ → Option (List ℕ) → Option (List ℕ)
-behind front rest = option_map (λ text. front ++ text) rest
+abbrev pub with_front : List ℕ → Option (List ℕ) → Option (List ℕ)
+with_front front rest = option_map (λ text. front ++ text) rest
 
 -- the text begins with a dash
 abbrev pub has_dash : List ℕ → Bool
@@ -78,23 +78,23 @@ IsShown quartz after_dash name n =
 abbrev pub HasNoName : List ℕ → Type 0
 HasNoName text = name_of (take 3 text) ≡ None
 
--- the text begins with a name, and the rest stands behind it
-pub record IsBehindName (text rest : List ℕ) : Type 0 where
+-- the text begins with a name, and the rest stands after it
+pub record IsAfterName (text rest : List ℕ) : Type 0 where
   pub name : Piece
   pub begins : name_of (take 3 text) ≡ Some name
   pub some : 3 ≤ length text
   pub back : rest ≡ drop 3 text
 
--- the text begins with what the field takes, a name or a character, and the rest stands behind it
-pub record IsBehindLegal (field : PatternField) (text rest : List ℕ) : Type 0 where
+-- the text begins with what the field takes, a name or a character, and the rest stands after it
+pub record IsAfterLegal (field : PatternField) (text rest : List ℕ) : Type 0 where
   pub shorter : length rest < length text
   pub same : from_illegal field text ≡ from_illegal field rest
 
--- what stands for the first piece of the text was put behind what was written, and the rest is left
+-- what stands for the first piece of the text was put after what was written, and the rest is left
 pub record Advances (quartz after_dash : Bool) (text written now rest : List ℕ) : Type 0 where
   pub shorter : length rest < length text
   pub is_text : IsUtf8 rest
-  pub same : behind written (replaced quartz after_dash text) ≡ behind now (replaced quartz (has_dash text) rest)
+  pub same : with_front written (replaced quartz after_dash text) ≡ with_front now (replaced quartz (has_dash text) rest)
 
 -- the same, or nothing where the text begins with a letter that stands for nothing
 abbrev pub AdvancesOrLost : Bool → Bool → List ℕ → List ℕ → List ℕ → Option (Bor (List ℕ)) → Type 0

@@ -24,16 +24,16 @@ Break reads p = ¬ (reads (p +ℤ pos 1) ≡ reads p +ℤ pos 1)
 abbrev pub HasTwin : Direction → (ℤ → ℤ) → ℤ → Type 0
 HasTwin direction reads i = (x : ℤ) × (reads x ≡ reads i) × Precedes direction i x
 
--- the clock is put forward or back between e and the instant behind it in the direction
-abbrev pub BreaksBehind : Direction → (ℤ → ℤ) → ℤ → Type 0
-BreaksBehind Forward reads e = Break reads (e -ℤ pos 1)
-BreaksBehind Backward reads e = Break reads e
+-- the clock is put forward or back between e and the instant before it in the direction
+abbrev pub BreaksBefore : Direction → (ℤ → ℤ) → ℤ → Type 0
+BreaksBefore Forward reads e = Break reads (e -ℤ pos 1)
+BreaksBefore Backward reads e = Break reads e
 
 -- e is the nearest instant of the half that s is not on: right past a change, at most a window from s
 pub record EdgeOf (direction : Direction) (reads : ℤ → ℤ) (s e : ℤ) : Type 0 where
   pub from : Precedes direction s e
   pub near : Reaches direction e (offset_from direction s (apart_limit + 1))
-  pub breaks : BreaksBehind direction reads e
+  pub breaks : BreaksBefore direction reads e
 
 -- the same moment so many seconds on in the direction
 abbrev pub moment_from : Direction → Moment → ℕ → Moment

@@ -67,7 +67,7 @@ pub record Walking (direction : Direction) (inclusive : Bool) (job : Job) (s : �
   pub reaches : Reaches direction (walk_start direction inclusive (job.zone.reads s)) wall
   pub none : IsCalmStart job.zone fraction → NoneOf direction inclusive job s (walk_start direction inclusive (job.zone.reads s)) wall
 
--- of a second's two instants the nearer that is not behind s, or else the other
+-- of a second's two instants the nearer that is not before s, or else the other
 abbrev pub NearerOf : {T : Type 0} → (T → Moment) → Direction → ℤ → T → T → Option T → Type 0
 NearerOf moment direction s near far (Some t) =
     ((t ≡ near) × Reaches direction s (moment near).instant)
@@ -75,7 +75,7 @@ NearerOf moment direction s near far (Some t) =
 NearerOf moment direction s near far None =
     Precedes direction (moment near).instant s × Precedes direction (moment far).instant s
 
--- the one of a second's two instants that a job takes, where it is not behind s
+-- the one of a second's two instants that a job takes, where it is not before s
 abbrev pub ChosenOf : {T : Type 0} → (T → Moment) → Bool → Direction → ℤ → T → T → Option T → Type 0
 ChosenOf moment false Forward s e l chosen = NearerOf moment Forward s e l chosen
 ChosenOf moment false Backward s e l chosen = NearerOf moment Backward s l e chosen
@@ -108,7 +108,7 @@ pub record Onward (direction : Direction) (reads : ℤ → ℤ) (w wall : ℤ) :
   pub on : Precedes direction w wall
   pub within : (p : ℤ) → reads p <ℤ w → w <ℤ reads (p +ℤ pos 1) → (reads p ≤ℤ wall) × (wall ≤ℤ reads (p +ℤ pos 1))
 
--- the walk goes on from a second in a gap, or from one whose nearer instant is behind s
+-- the walk goes on from a second in a gap, or from one whose nearer instant lies before s
 abbrev pub Paces : Direction → (ℤ → ℤ) → ℤ → ℤ → ℤ → Type 0
 Paces direction reads s w wall =
     (((x : ℤ) → ¬ (reads x ≡ w)) × Onward direction reads w wall)

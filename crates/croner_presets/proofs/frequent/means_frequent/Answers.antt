@@ -8,4 +8,4 @@ returns-in-Ok-clause-ok c =
 
 pub returns-in-Err-clause-ok : goal.returns-in-Err-clause-ok
 returns-in-Err-clause-ok c =
-    given_refused c.parse.result c.in-Err.error c.parser.result (settings_of c.args.preset) c.args.text.now c.not_read.result c.parse.ensures c.in-Err.is c.parser.ensures c.not_read.ensures.ok
+    given_refused c.parse.result c.in-Err.error c.parser.result (settings_of c.args.preset) c.args.text.now c.answer_to_refusal.result c.parse.ensures c.in-Err.is c.parser.ensures c.answer_to_refusal.ensures.ok

@@ -6,7 +6,7 @@ use Rattle.cronplan.specs.declared.start.JobStart.{JobStart}
 use Rattle.cronplan.specs.Moments.{at_second}
 use Rattle.cronplan.specs.Starts.{start_cmp}
 use Rattle.cronplan.proofs.AlikeElements.{sorted_from}
-use Rattle.cronplan.proofs.MomentStarts.{none_start, late_drop, behind_earlier}
+use Rattle.cronplan.proofs.MomentStarts.{none_start, late_drop, after_earlier}
 use Rattle.cronplan.proofs.StartOrder.{start_weak}
 use Rattle.cronplan.proofs.moments.starts_from.Goals as goal
 
@@ -26,6 +26,6 @@ returns-then-is_new c = λ d.
     let before = c.is_new.ensures.new c.if-is_new.true d in
     record {
       group_is = c.starts_like.ensures ∙ ap (at_second x.second) c.split_at.ensures.back ∙ ap (λ (y : JobStart). at_second y.second (drop c.args.place c.args.starts.now)) same
-          ∙ behind_earlier (get_or c.args.starts.now c.args.place d).second c.args.starts.now c.args.place before;
+          ∙ after_earlier (get_or c.args.starts.now c.args.place d).second c.args.starts.now c.args.place before;
       earlier = before;
     }

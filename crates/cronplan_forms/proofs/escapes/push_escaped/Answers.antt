@@ -1,12 +1,12 @@
 use Rattle.std.proofs.Common.{◌≡◌, ◌++◌, refl, ◌∙◌, string_bytes, rules}
 use Rattle.std.proofs.lemmas.Str.{cons_from_encodes, encodes-chars}
 use Rattle.std.specs.Str.{chars}
-use Rattle.cronplan_forms.specs.Escapes.{escaped_character, escaped}
+use Rattle.cronplan_forms.specs.Escapes.{escaped_character, escaped_text}
 use Rattle.cronplan_forms.proofs.EscapedTexts.{one_more, no_more, no_characters}
 use Rattle.cronplan_forms.proofs.escapes.push_escaped.Goals as goal
 
 pub loop-c-init : goal.loop-c-init
-unfolding escaped
+unfolding escaped_text
 loop-c-init c = (chars c.args.text.now, search (rules, encodes-chars c.args.text.now c.utf8.text), refl)
 
 pub loop-c-preserved : goal.loop-c-preserved

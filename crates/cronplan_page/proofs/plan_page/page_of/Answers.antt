@@ -11,8 +11,8 @@ returns c =
     page_text_is c.args.view c.args.about _ (string_bytes c.in_ok-text.text) c.in_ok-text.ensures (record {
       view_is = refl;
       about_is = refl;
-      first_is = rw (to_z-of_z w64 span.first (first_fits span.first span.end span.held)) at c.at.ensures;
-      end_is = rw (to_z-of_z w64 span.end (end_fits span.first span.end span.held)) at c.at-2.ensures;
+      first_is = rw (to_z-of_z w64 span.first (first_fits span.first span.end span.held)) at c.shown_at.ensures;
+      end_is = rw (to_z-of_z w64 span.end (end_fits span.first span.end span.held)) at c.shown_at-2.ensures;
       quiet_are = rw c.as_slice-2.ensures.value told.quiet;
       fullest_are = rw c.as_slice-3.ensures.value told.fullest;
       starts_are = rw c.as_slice-4.ensures.value told.starts;

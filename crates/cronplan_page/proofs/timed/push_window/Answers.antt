@@ -8,4 +8,4 @@ returns c = λ windows h.
     let from : FitsSigned w64 c.args.window.from.second = search rules in
     let until : FitsSigned w64 c.args.window.until.second = search rules in
     windows_more _ windows c.args.timed.now.items c.push.new.self.items c.args.window _ h c.in_ok-push.ensures.items refl
-    (rw (to_z-of_z w64 c.args.window.from.second from) at c.at-from.ensures) (rw (to_z-of_z w64 c.args.window.until.second until) at c.at-until.ensures)
+    (rw (to_z-of_z w64 c.args.window.from.second from) at c.shown_at-from.ensures) (rw (to_z-of_z w64 c.args.window.until.second until) at c.shown_at-until.ensures)

@@ -7,5 +7,5 @@ pub returns-clause-timed : goal.returns-clause-timed
 returns-clause-timed c =
     let fits : FitsSigned w64 c.args.change.second = search rules in
     let low : FitsSigned w64 c.saturating_sub.result = search rules in
-    change_timed _ _ c.saturating_sub.result (rw (to_z-of_z w64 c.args.change.second fits) at c.at-2.ensures)
-    (rw (to_z-of_z w64 c.args.change.second fits) at c.saturating_sub.ensures) (rw (to_z-of_z w64 c.saturating_sub.result low) at c.at.ensures)
+    change_timed _ _ c.saturating_sub.result (rw (to_z-of_z w64 c.args.change.second fits) at c.shown_at-2.ensures)
+    (rw (to_z-of_z w64 c.args.change.second fits) at c.saturating_sub.ensures) (rw (to_z-of_z w64 c.saturating_sub.result low) at c.shown_at.ensures)

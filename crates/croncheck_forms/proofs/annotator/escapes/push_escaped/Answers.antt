@@ -1,9 +1,9 @@
 use Rattle.std.proofs.Common.{◌≡◌, ◌∙◌, ◌++◌, List, ℕ, [], ◌∷◌, length, sym, arith, Bool, rules}
 use Rattle.std.proofs.lemmas.List.{append-nil}
-use Rattle.croncheck_forms.specs.Annotations.{escaped}
+use Rattle.croncheck_forms.specs.Annotations.{escaped_bytes}
 use Rattle.croncheck_forms.proofs.annotator.escapes.push_escaped.Goals as goal
 
-none_escaped : (done all : List ℕ) (is_property : Bool) (bytes : List ℕ) → length bytes ≡ 0 → done ++ escaped is_property bytes ≡ all → done ≡ all
+none_escaped : (done all : List ℕ) (is_property : Bool) (bytes : List ℕ) → length bytes ≡ 0 → done ++ escaped_bytes is_property bytes ≡ all → done ≡ all
 none_escaped done all is_property [] none h = sym (append-nil done) ∙ h
 none_escaped done all is_property (b ∷ bs) none h = absurd (omega (arith, none))
 

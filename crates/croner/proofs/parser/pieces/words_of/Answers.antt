@@ -15,28 +15,28 @@ pub loop-word-preserved : goal.loop-word-preserved
 loop-word-preserved c =
     let text = c.args.text.now in
     let rest = split_whitespace_rest c.loop-word.word-iterator in
-    let behind = split_whitespace_rest c.next.new.self in
+    let after = split_whitespace_rest c.next.new.self in
     let word = c.in-Some.word.now in
     let items = c.loop-word.words.items in
     let ws = map (λ (w : Piece). w.text.now) items in
     let t = c.in-Some.ensures.steps in
-    let s : StartsWith rest word behind = record { gap = t.0; spells = t.1; some = t.2; is_gap = t.3; is_word = t.4; ends = t.5 } in
+    let s : StartsWith rest word after = record { gap = t.0; spells = t.1; some = t.2; is_gap = t.3; is_word = t.4; ends = t.5 } in
     let w = c.loop-word.invariant.0 in
-    let start = next_start text rest word behind c.trim_start-here.result.now ws c.loop-word.from w s (c.trim_start-here.ensures.trim ∙ ap trim_start c.range_from.ensures.value) in
+    let start = next_start text rest word after c.trim_start-here.result.now ws c.loop-word.from w s (c.trim_start-here.ensures.trim ∙ ap trim_start c.range_from.ensures.value) in
     let n = length text - length c.trim_start-here.result.now in
-    let on = walk_goes_on text word behind rest ws c.loop-word.from w s in
+    let on = walk_goes_on text word after rest ws c.loop-word.from w s in
     let here : IsWordFrom text (0 + length items) (length text - length c.trim_start-here.result.now) word = record {
       ws = ws;
       from = c.loop-word.from;
       rest = rest;
-      behind = behind;
+      after = after;
       walked = w;
       first = s;
       its_place = length-map items (λ (w : Piece). w.text.now) ∙ omega arith;
       its_start = sym start;
     } in
     rw c.in_ok-push.ensures.items (
-      subst (λ vs. IsWalked text vs (n + length word) behind) (sym (map-append (λ (w : Piece). w.text.now) items _)) (subst (λ m. IsWalked text (ws ++ word ∷ []) (m + length word) behind) (sym start) on),
+      subst (λ vs. IsWalked text vs (n + length word) after) (sym (map-append (λ (w : Piece). w.text.now) items _)) (subst (λ m. IsWalked text (ws ++ word ∷ []) (m + length word) after) (sym start) on),
       placed_more text 0 items _ c.loop-word.invariant.1 here,
     )
 

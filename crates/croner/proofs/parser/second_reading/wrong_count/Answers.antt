@@ -12,14 +12,14 @@ pub returns-then-most-eq0 : goal.returns-then-most-eq0
 returns-then-most-eq0 c =
     let s = c.args.parser.now in
     let none : most_fields s.seconds_field s.year_field ≡ 0 = search rules in
-    rw (c.whole.ensures.starts, c.whole.ensures.ends) (found_count s c.args.text.now c.utf8.text (whole_by_none s c.args.text.now (eq-eqb _ 0 none)))
+    rw (c.finding_of_whole.ensures.starts, c.finding_of_whole.ensures.ends) (found_count s c.args.text.now c.utf8.text (whole_by_none s c.args.text.now (eq-eqb _ 0 none)))
 
 pub returns-then-has_byte : goal.returns-then-has_byte
 returns-then-has_byte c =
     let s = c.args.parser.now in
     let text = c.args.text.now in
     let sign : contains_byte 64 text ≡ true = search rules in
-    rw (c.whole-then-has_byte.ensures.starts, c.whole-then-has_byte.ensures.ends) (found_count s text c.utf8.text (whole_by_sign s text sign))
+    rw (c.finding_of_whole-then-has_byte.ensures.starts, c.finding_of_whole-then-has_byte.ensures.ends) (found_count s text c.utf8.text (whole_by_sign s text sign))
 
 pub returns : goal.returns
 returns c =

@@ -17,12 +17,12 @@ pub returns-then-not-branch-clause-value : goal.returns-then-not-branch-clause-v
 returns-then-not-branch-clause-value g c = λ calm.
     let m = g.T.CronDateTime.moment c.args.run.now in
     let within = start_within _ m _ _ c.if-not-is_within.false c.to_civil-shown.ensures c.is_within.ensures in
-    alone_in_span c.args.direction m _ within c.opposite-back.ensures (refuted _ _ c.if-not-branch.true (c.in_ok-is_on_first_half.ensures.value calm)) calm
+    alone_in_span c.args.direction m _ within c.opposite_way-back.ensures (refuted _ _ c.if-not-branch.true (c.in_ok-is_on_first_half.ensures.value calm)) calm
 
 pub returns-clause-value : goal.returns-clause-value
 returns-clause-value g c = λ calm.
     let m = g.T.CronDateTime.moment c.args.run.now in
     let within = start_within _ m _ _ c.if-not-is_within.false c.to_civil-shown.ensures c.is_within.ensures in
     let edge = rw c.in-Some.is at c.in_ok-edge.ensures.value in
-    across_in_span c.args.direction m g.T.CronDateTime.moment _ c.in-Some.edge _ _ within c.opposite-back.ensures
+    across_in_span c.args.direction m g.T.CronDateTime.moment _ c.in-Some.edge _ _ within c.opposite_way-back.ensures
     ((c.in_ok-is_on_first_half.ensures.value calm).0 c.if-not-branch.false) edge c.to_civil.ensures c.is_within-2.ensures calm

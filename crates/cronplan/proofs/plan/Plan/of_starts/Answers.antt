@@ -6,10 +6,10 @@ use Rattle.cronplan.proofs.plan.Plan.of_starts.Goals as goal
 
 pub invariant_of-result : goal.invariant_of-result
 invariant_of-result c =
-    let merges = c.merged-starts.ensures.starts in
+    let merges = c.merge-starts.ensures.starts in
     record {
-      order = merged_order c.args.starts.items c.merged-starts.result.0.items _ _ merges.merged;
-      within = subst (λ (i : ℤ). All (λ (s : JobStart). i ≤ℤ s.second) c.merged-starts.result.0.items) (sym merges.from)
-          (merged_all (λ (s : JobStart). c.args.span.first ≤ℤ s.second) c.args.starts.items c.merged-starts.result.0.items _ _ merges.merged c.requires);
-      few = c.merged-starts.ensures.few;
+      order = merged_order c.args.starts.items c.merge-starts.result.0.items _ _ merges.merged;
+      within = subst (λ (i : ℤ). All (λ (s : JobStart). i ≤ℤ s.second) c.merge-starts.result.0.items) (sym merges.from)
+          (merged_all (λ (s : JobStart). c.args.span.first ≤ℤ s.second) c.args.starts.items c.merge-starts.result.0.items _ _ merges.merged c.requires);
+      few = c.merge-starts.ensures.few;
     }

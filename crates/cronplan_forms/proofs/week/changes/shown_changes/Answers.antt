@@ -9,5 +9,5 @@ loop-change-preserved c = record {
   of_them = of_more (λ (s : ShownChange). s.change) c.loop-change.shown.items c.push.new.self.items c.shown_change.result _ c.loop-change.change-index _ c.in_ok-push.ensures.items c.loop-change.invariant.of_them
       (omega (arith, c.loop-change-test.true)) c.shown_change.ensures.change;
   each = each_more (IsShownChange c.args.plan.now.starts.items) c.loop-change.shown.items c.push.new.self.items c.shown_change.result c.in_ok-push.ensures.items c.loop-change.invariant.each
-      (record { behind_is = c.shown_change.ensures.behind; shown_is = c.shown_change.ensures.shown; starts_are = search rules });
+      (record { expected_is = c.shown_change.ensures.expected; shown_is = c.shown_change.ensures.shown; starts_are = search rules });
 }

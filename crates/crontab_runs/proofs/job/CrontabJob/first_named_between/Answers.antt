@@ -19,7 +19,7 @@ returns-then-names c =
     let minute : minute_of (m *ℤ pos 60) ≡ m = minute_is (m *ℤ pos 60) m (omega (arith, ints)) (omega (arith, ints)) in
     simp to_z-of_z (record {
       begins = sym (ap (λ (x : ℤ). x *ℤ pos 60) minute);
-      behind = omega (arith, ints, minute, i.from);
+      later = omega (arith, ints, minute, i.from);
       ahead = omega (arith, ints, minute, below);
       named = subst names (sym minute) (c.names.ensures.0 c.if-names.true);
       first = λ j low named. by_lt_z j m (λ less. absurd (i.none j low less named)) (λ more. omega (arith, ints, minute, more));

@@ -13,23 +13,23 @@ pub returns-in-Found : goal.returns-in-Found
 returns-in-Found c =
     let i = c.loop-step.invariant in
     let job = cron_job_of c.args.self.now in
-    let none = subst (λ (b : ℤ). (j : ℤ) → j ≤ℤ c.args.until.now.second → b ≤ℤ j → Starts job (table_zone c.table-table.result.now) j → ⊥) (sym c.behind.ensures.end) i.none in
-    found_backward job c.args.until.now c.table-table.result.now c.behind.result _ i.table c.behind.ensures.table i.second none c.in-Found.start
+    let none = subst (λ (b : ℤ). (j : ℤ) → j ≤ℤ c.args.until.now.second → b ≤ℤ j → Starts job (table_zone c.table-table.result.now) j → ⊥) (sym c.after_changes.ensures.end) i.none in
+    found_backward job c.args.until.now c.table-table.result.now c.after_changes.result _ i.table c.after_changes.ensures.table i.second none c.in-Found.start
     (start_held (job_of c.args.self.now.cron) c.args.self.now.is_starred c.args.until.now.table.now) c.in-Found.ensures
 
 pub returns-in-Over : goal.returns-in-Over
 returns-in-Over c =
     let i = c.loop-step.invariant in
     let job = cron_job_of c.args.self.now in
-    let none = subst (λ (b : ℤ). (j : ℤ) → j ≤ℤ c.args.until.now.second → b ≤ℤ j → Starts job (table_zone c.table-table.result.now) j → ⊥) (sym c.behind.ensures.end) i.none in
-    over_backward job c.args.until.now c.table-table.result.now c.behind.result _ i.table c.behind.ensures.table i.second none c.in-Over.ensures
+    let none = subst (λ (b : ℤ). (j : ℤ) → j ≤ℤ c.args.until.now.second → b ≤ℤ j → Starts job (table_zone c.table-table.result.now) j → ⊥) (sym c.after_changes.ensures.end) i.none in
+    over_backward job c.args.until.now c.table-table.result.now c.after_changes.result _ i.table c.after_changes.ensures.table i.second none c.in-Over.ensures
 
 pub stretch_before-changes-requires-clause-some : goal.stretch_before-changes-requires-clause-some
 stretch_before-changes-requires-clause-some c =
     let i = c.loop-step.invariant in
     let job = cron_job_of c.args.self.now in
-    let none = subst (λ (b : ℤ). (j : ℤ) → j ≤ℤ c.args.until.now.second → b ≤ℤ j → Starts job (table_zone c.table-table.result.now) j → ⊥) (sym c.behind.ensures.end) i.none in
-    not_first job c.args.until.now c.table-table.result.now c.behind.result _ i.table c.behind.ensures.table i.second none c.loop-step.changes (omega (arith, i.back, i.few)) c.behind.ensures.begin
+    let none = subst (λ (b : ℤ). (j : ℤ) → j ≤ℤ c.args.until.now.second → b ≤ℤ j → Starts job (table_zone c.table-table.result.now) j → ⊥) (sym c.after_changes.ensures.end) i.none in
+    not_first job c.args.until.now c.table-table.result.now c.after_changes.result _ i.table c.after_changes.ensures.table i.second none c.loop-step.changes (omega (arith, i.back, i.few)) c.after_changes.ensures.begin
     c.in-GoOn.ensures.0
 
 pub stretch_before-changes-requires-clause-within : goal.stretch_before-changes-requires-clause-within
@@ -40,19 +40,19 @@ loop-step-preserved c =
     let i = c.loop-step.invariant in
     let job = cron_job_of c.args.self.now in
     let t = c.args.until.now in
-    let s = c.behind.result in
+    let s = c.after_changes.result in
     let n = c.loop-step.changes in
     let on = c.in-GoOn.ensures in
     let before = c.stretch_before-changes.ensures in
     let within : n ≤ length c.table-table.result.now.changes.items = omega (arith, i.back, i.few) in
-    let none = subst (λ (b : ℤ). (j : ℤ) → j ≤ℤ t.second → b ≤ℤ j → Starts job (table_zone c.table-table.result.now) j → ⊥) (sym c.behind.ensures.end) i.none in
+    let none = subst (λ (b : ℤ). (j : ℤ) → j ≤ℤ t.second → b ≤ℤ j → Starts job (table_zone c.table-table.result.now) j → ⊥) (sym c.after_changes.ensures.end) i.none in
     record {
       table = i.table;
       second = i.second;
       few = i.few;
       back = omega (arith, i.back, before.on);
-      reached = reached_before job t c.table-table.result.now s _ i.table c.behind.ensures.table i.second none n within c.behind.ensures.begin on.0 c.stretch_before-changes.result before i.reached;
-      none = none_before job t c.table-table.result.now s _ i.table c.behind.ensures.table i.second none n within c.behind.ensures.begin on.0 c.stretch_before-changes.result before;
+      reached = reached_before job t c.table-table.result.now s _ i.table c.after_changes.ensures.table i.second none n within c.after_changes.ensures.begin on.0 c.stretch_before-changes.result before i.reached;
+      none = none_before job t c.table-table.result.now s _ i.table c.after_changes.ensures.table i.second none n within c.after_changes.ensures.begin on.0 c.stretch_before-changes.result before;
       known = on.1;
       backward = on.2;
     }
@@ -71,6 +71,6 @@ loop-step-init c =
       back = omega arith;
       reached = c.changes_until-count.ensures.begin;
       none = λ j upto ge starts. absurd (omega (arith, ints, upto, ge, c.changes_until-count.ensures.end, from));
-      known = c.behind_all-known.ensures.known (job_of c.args.self.now.cron);
-      backward = c.behind_all-known.ensures.direction;
+      known = c.before_any_search-known.ensures.known (job_of c.args.self.now.cron);
+      backward = c.before_any_search-known.ensures.direction;
     }

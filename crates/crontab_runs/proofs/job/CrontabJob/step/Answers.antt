@@ -31,7 +31,7 @@ returns-then-goes_on c =
     let p : Part = record { job = c.args.self; stretch = s; from = x; direction = c.args.direction; low = low; high = high } in
     let own : SameFrom c.args.direction s c.args.from c.first_in.result = simp to_z-of_z at c.first_in.ensures.same in
     let same : SameFrom c.args.direction s c.args.from x = subst (λ (y : ℤ). SameFrom c.args.direction s c.args.from y) (sym at) own in
-    (step_on p c.args.from same c.in-None.ensures (c.goes_on.ensures.0 c.if-goes_on.true), c.onward-minutes.ensures.known, c.onward-minutes.ensures.direction ∙ c.requires.same)
+    (step_on p c.args.from same c.in-None.ensures (c.goes_on.ensures.0 c.if-goes_on.true), c.known_from-minutes.ensures.known, c.known_from-minutes.ensures.direction ∙ c.requires.same)
 
 pub returns-else-goes_on : goal.returns-else-goes_on
 returns-else-goes_on c =

@@ -24,6 +24,6 @@ returns c =
     let test = simp to_z-of_z at c.if-known-minute_of.false in
     let near : c.minute_of.result ≤ℤ k.from = grind (arith, ints, test) in
     let ends : ((c.first-minute.result +ℤ pos 180) *ℤ pos 60 +ℤ pos 86_400) <ℤ end_of t.changes.items c.changes_until.result = simp to_z-of_z at c.changes_until.ensures.end in
-    before_is (job_of c.args.self.now.cron) c.args.self.now.is_starred t k.direction k.from c.first-minute.result minute.all c.args.changes c.requires.within c.behind.result c.behind.ensures.table
-    c.behind.ensures.begin c.requires.backward c.requires.some c.changes_until.result c.min.result (λ h. omega (arith, c.min.ensures, h)) (λ h. omega (arith, c.min.ensures, h))
-    (omega (arith, ints, near, (shown_found c.behind.result c.minute_of.result c.minute_of.ensures).0)) ends
+    before_is (job_of c.args.self.now.cron) c.args.self.now.is_starred t k.direction k.from c.first-minute.result minute.all c.args.changes c.requires.within c.after_changes.result c.after_changes.ensures.table
+    c.after_changes.ensures.begin c.requires.backward c.requires.some c.changes_until.result c.min.result (λ h. omega (arith, c.min.ensures, h)) (λ h. omega (arith, c.min.ensures, h))
+    (omega (arith, ints, near, (shown_found c.after_changes.result c.minute_of.result c.minute_of.ensures).0)) ends

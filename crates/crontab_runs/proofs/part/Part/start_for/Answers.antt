@@ -2,7 +2,7 @@ use Rattle.std.proofs.Common.{arith, rules, pos, ◌-ℤ◌, ◌*ℤ◌, ◌<ℤ
 use Rattle.std.proofs.lemmas.Int.{ints, to_z-of_z}
 use Rattle.croner_base.proofs.tables.TableTests.{le_of}
 use Rattle.crontab_runs.specs.Private.Found.{IsNearestFrom}
-use Rattle.crontab_runs.proofs.PartStarts.{product_fits, second_fits, offset_fits, end_fits, none_before_least, none_past_end, found_behind}
+use Rattle.crontab_runs.proofs.PartStarts.{product_fits, second_fits, offset_fits, end_fits, none_before_least, none_past_end, found_after_begin}
 use Rattle.crontab_runs.proofs.part.Part.start_for.Goals as goal
 
 pub overflow_mul-second : goal.overflow_mul-second
@@ -56,4 +56,4 @@ returns c =
     let u = simp to_z-of_z at c.if-second-self.false in
     let above : c.least_minute.result ≤ℤ c.args.minute = grind (arith, ints, t) in
     let high : (c.args.minute *ℤ pos 60 -ℤ p.stretch.offset) <ℤ p.stretch.end = grind (arith, ints, u) in
-    simp to_z-of_z (found_behind p c.args.minute near (omega (arith, ints, above, c.least_minute.ensures)) high)
+    simp to_z-of_z (found_after_begin p c.args.minute near (omega (arith, ints, above, c.least_minute.ensures)) high)

@@ -14,16 +14,16 @@ loop-inside-init g c = record {
 
 pub returns-in-Some : goal.returns-in-Some
 returns-in-Some g c =
-    let answered = rw c.in-Some.is at c.beyond.ensures in
-    let farther = c.doubled-outside.ensures.farther in
-    let near = c.doubled-outside.ensures.near in
+    let answered = rw c.in-Some.is at c.probe_beyond.ensures in
+    let farther = c.double-outside.ensures.farther in
+    let near = c.double-outside.ensures.near in
     let most = c.requires.near in
     record { ordered = farther; near = omega arith; skipped = c.loop-inside.invariant.skipped; beyond = answered }
 
 pub loop-inside-preserved : goal.loop-inside-preserved
 loop-inside-preserved g c =
-    let skipped = rw c.in-None.is at c.beyond.ensures in
-    record { near = c.doubled-outside.ensures.near; skipped = skipped }
+    let skipped = rw c.in-None.is at c.probe_beyond.ensures in
+    record { near = c.double-outside.ensures.near; skipped = skipped }
 
 pub returns : goal.returns
 returns g c =

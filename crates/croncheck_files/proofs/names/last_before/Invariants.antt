@@ -1,6 +1,0 @@
-use Rattle.std.proofs.Common.{◌≡◌, take}
-use Rattle.croncheck_files.specs.Names.{last_before}
-use Rattle.croncheck_files.proofs.names.last_before.Given as goal
-
-abbrev pub invariant-loop-k : goal.invariant-loop-k
-invariant-loop-k l = l.last ≡ last_before l.fn.place (take l.k l.fn.places)
