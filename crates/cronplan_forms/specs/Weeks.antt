@@ -22,7 +22,7 @@ use Rattle.cronplan_forms.specs.declared.week.changes.NamedWall.{NamedWall}
 use Rattle.cronplan_forms.specs.declared.week.changes.ShownChange.{ShownChange}
 use Rattle.cronplan_forms.specs.Answers.{starts_text}
 use Rattle.cronplan_forms.specs.Clocks.{clock_text, second_of_day}
-use Rattle.cronplan_forms.specs.WindowRuns.{AreTold, longest_text, most_longest, window_runs}
+use Rattle.cronplan_forms.specs.WindowRuns.{AreTold, least_longest, longest_text, most_longest, window_runs}
 use Rattle.cronplan_forms.specs.DateNames.{IsDateName, date_name_text, date_of_wall}
 
 -- ---- signs
@@ -172,7 +172,7 @@ pub record IsPlanWeek (table : ClockTable) (p : Plan) (week : PlanWeek) : Type 0
   pub days : AreDays (table_zone table) table.changes.items p.span p.starts.items (map (λ r. r.day.now) week.rows) (map (λ s. s.change) week.changes)
   pub names : All IsNamedDay week.rows
   pub shown : All (IsShownChange p.starts.items) week.changes
-  pub windows_are : AreTold (table_zone table) p 1 week.windows
+  pub windows_are : AreTold (table_zone table) p least_longest week.windows
 
 -- the picture, and below it the changes and the longest windows
 abbrev pub week_text : Signs → PlanWeek → List ℕ

@@ -119,7 +119,11 @@ run_lines runs = flat_map run_line runs
 abbrev pub quiet_text : ℕ → List ShownWindow → List ℕ
 quiet_text least told = quiet_head (length told == 0) least ++ run_lines (window_runs told)
 
--- so many lines tell of the longest windows below a picture, at most
+-- so many seconds a window has at least that is told below a picture
+abbrev pub least_longest : ℕ
+least_longest = 3_600
+
+-- so many lines tell of the longest of these, at most
 abbrev pub most_longest : ℕ
 most_longest = 5
 

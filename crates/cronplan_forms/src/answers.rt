@@ -12,5 +12,5 @@ pub use busy::{ShownMoment, busy_text};
 pub use left_out::left_out_text;
 pub use questions::{Questions, answers_text};
 pub use quiet::{ShownWindow, quiet_text};
-pub(crate) use runs::{push_longest, told_windows, window_runs};
+pub(crate) use runs::{LEAST_LONGEST, push_longest, told_windows, window_runs};
 pub use together::{ShownSet, together_text};

@@ -6,7 +6,7 @@ ghost use Rattle.cronplan_forms.specs.Weeks.{block_of, digit_of, step_sign, sign
 
 mod changes;
 
-use crate::answers::{push_longest, told_windows, window_runs};
+use crate::answers::{LEAST_LONGEST, push_longest, told_windows, window_runs};
 use crate::clock::{TimeOfDay, second_of_day};
 use crate::date_name::DateName;
 use crate::view::View;
@@ -33,8 +33,8 @@ pub struct WeekDay<'w> {
 /// The least starts in an hour of each of the steps.
 const STEPS: [u64; 9] = [0, 1, 2, 4, 8, 16, 32, 64, 128];
 
-/// The picture of a plan: a row a date, and what the signs mean; below a line for each change of the clock, and the longest windows in which
-/// nothing starts, as `quiet_text` tells them, in five lines at most.
+/// The picture of a plan: a row a date, and what the signs mean; below a line for each change of the clock, and the longest windows of an hour
+/// or more in which nothing starts, as `quiet_text` tells them, in five lines at most.
 ///
 /// A sign stands for the number of starts in an hour, in doubling steps; an hour that the clock skips is an `x`. The only error is lack of
 /// memory.
@@ -44,7 +44,7 @@ pub fn week_text(alloc: Global, view: View<'_>, signs: Signs) -> Result<String, 
     let days = view.plan.days(alloc, view.table)?;
     let rows = rows_of(alloc, days.days.as_slice())?;
     let changes = shown_changes(alloc, view.plan, days.changes.as_slice())?;
-    let windows = told_windows(alloc, view, 1)?;
+    let windows = told_windows(alloc, view, LEAST_LONGEST)?;
     let runs = window_runs(alloc, windows.as_slice())?;
     let mut text = String::new(alloc);
     push_picture(&mut text, rows.as_slice(), signs)?;

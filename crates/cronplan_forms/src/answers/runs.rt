@@ -1,5 +1,6 @@
 //! Quiet windows that come again from day to day, in one line.
-ghost use Rattle.std.specs.Prelude.{◌≡◌, ◌++◌, ◌<◌, ◌≤◌, suc, IfOk, OnOk, length, map, take, option_copied, string_bytes};
+ghost use Rattle.std.specs.Ordering.{int_eq};
+ghost use Rattle.std.specs.Prelude.{◌≡◌, ◌++◌, ◌<◌, ◌≤◌, ◌+ℤ◌, pos, suc, IfOk, OnOk, length, map, take, option_copied, string_bytes};
 ghost use Rattle.croner_base.specs.TableZone.{table_zone};
 ghost use Rattle.cronplan_forms.specs.WindowRuns.{AreTold, comes_again, days_line, ends_next_day, ends_on_date, day_text, is_day_later, is_next_date, is_regular, line_to, longest_text, most_longest, run_line, run_lines, shown_date, shown_second, some_longest, window_runs};
 ghost use Rattle.cronplan_forms.specs.Private.Steps.{goes_on, run_steps};
@@ -12,6 +13,9 @@ use crate::view::View;
 use std::alloc::{AllocError, Global};
 use std::cmp::Reverse;
 use std::fmt;
+
+/// So many seconds a window has at least that is told below a picture.
+pub(crate) const LEAST_LONGEST: u64 = 3_600;
 
 /// So many lines tell of the longest windows below a picture, at most.
 const MOST_LONGEST: usize = 5;
@@ -130,7 +134,14 @@ fn is_day_later(time: ClockTime, next: ClockTime) -> bool
 fn is_next_date(time: ClockTime, next: ClockTime) -> bool
     ensures { result ≡ is_next_date time next }
 {
-    i128::from(shown_date(next)) == i128::from(shown_date(time)) + 1
+    is_next(shown_date(time), shown_date(next))
+}
+
+// Whether the second date follows the first one.
+fn is_next(date: i64, next: i64) -> bool
+    ensures { result ≡ int_eq next (date +ℤ pos 1) }
+{
+    i128::from(next) == i128::from(date) + 1
 }
 
 // The date that a clock shows, counted from 1970-01-01.
