@@ -1,3 +1,4 @@
 -- Jobs in few words.
 pub mod WordFields
+pub mod YearRuns
 pub mod Compact

@@ -44,9 +44,10 @@ pub struct CompactCron {
 }
 
 impl CompactCron {
-    ghost use Rattle.std.specs.Prelude.{IfOk, IfErr, if◌then◌else◌};
+    ghost use Rattle.std.specs.Prelude.{IfOk, IfErr, OnErr, if◌then◌else◌};
     ghost use Rattle.croner_pattern.specs.Schedule.{is_fixed_time};
     ghost use Rattle.croner.specs.compact.Compact.{compact_meaning, IsAlike};
+    ghost use Rattle.croner.specs.compact.YearRuns.{IsOneRun};
     ghost use Rattle.croner.specs.search.PatternJob.{timetable_of};
     ghost use Rattle.croner.specs.Views.{job_of};
 
@@ -62,6 +63,7 @@ impl CompactCron {
     pub fn of(alloc: Global, cron: &Cron) -> Result<CompactCron, CronError>
         ensures ok { IfOk result (λ c. IsAlike (timetable_of (job_of cron.now)) (timetable_of (compact_meaning c))) }
         ensures err { IfErr result (λ e. e ≡ CronError.OutOfMemory) }
+        ensures lacks { OnErr result (IsOneRun (job_of cron.now).years → ⊥) }
     {
         let years = Years::of(alloc, &cron.pattern.years)?;
         Ok(compacted(alloc, cron, years))

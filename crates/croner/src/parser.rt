@@ -22,7 +22,11 @@ mod stop;
 use crate::job::Cron;
 use croner_base::errors::CronError;
 use croner_pattern::pattern::CronPattern;
-pub use fault::{Expected, FaultKind, Hint, PatternFault, PatternField, Suggestion, ValueNames};
+pub use fault::{
+    Expected, ExpectedCharacter, ExpectedDay, ExpectedNickname, ExpectedStar, ExpectedStep,
+    ExpectedText, ExpectedValue, FaultKind, FieldValues, FieldsHint, Hint, PatternFault,
+    PatternField, SignHint, Suggestion, TextHint, ValueNames,
+};
 use std::alloc::Global;
 use std::marker::Model;
 use stop::Stop;

@@ -46,10 +46,10 @@ module _ {T : Type 0} (moment : T → Moment) (id : ℕ) (s : ℤ) (k : ℕ) whe
   apart_by (Stopped stop) m apart e f = false≢true e
 
   -- the turn of the one is taken out after that of the other, where the two differ
-  pub taken_behind : (n m : Next T) (has : Bool) → is_same_turn moment n m ≡ false
+  pub taken_after : (n m : Next T) (has : Bool) → is_same_turn moment n m ≡ false
       → cond (is_next_turn moment n id s k) false (cond (is_next_turn moment m id s k) true has)
       ≡ cond (is_next_turn moment m id s k) true (cond (is_next_turn moment n id s k) false has)
-  taken_behind n m has apart = by (is_next_turn moment n id s k) (is_next_turn moment m id s k) (λ e f. apart_by n m apart e f)
+  taken_after n m has apart = by (is_next_turn moment n id s k) (is_next_turn moment m id s k) (λ e f. apart_by n m apart e f)
     where
       by : (b d : Bool) → (b ≡ true → d ≡ true → ⊥) → cond b false (cond d true has) ≡ cond d true (cond b false has)
       by true true never = absurd (never refl refl)

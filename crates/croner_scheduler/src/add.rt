@@ -76,7 +76,7 @@ impl fmt::Display for AddError {
 impl Error for AddError {}
 
 // A job that isn't added or put in another's place.
-pub(crate) fn refused<J, T>(job: J, position: T, error: AddError) -> NotAdded<J, T>
+pub(crate) fn not_added<J, T>(job: J, position: T, error: AddError) -> NotAdded<J, T>
     ensures handed_back { IsHandedBack job position result }
     ensures error { result.error ≡ error }
 {
@@ -88,12 +88,15 @@ pub(crate) fn refused<J, T>(job: J, position: T, error: AddError) -> NotAdded<J,
 }
 
 // A job that isn't added for lack of memory, with the position that it was given.
-pub(crate) fn lacking<J, T: Drop>(waiting: Waiting<J, T>, position: T) -> NotAdded<J, T>
+pub(crate) fn not_added_for_memory<J, T: Drop>(
+    waiting: Waiting<J, T>,
+    position: T,
+) -> NotAdded<J, T>
     ensures handed_back { IsHandedBack waiting.job position result }
     ensures error { result.error ≡ OutOfMemory }
 {
     let (job, _) = waiting.into_parts();
-    refused(job, position, AddError::OutOfMemory)
+    not_added(job, position, AddError::OutOfMemory)
 }
 
 /// The sentence of its error.

@@ -7,7 +7,7 @@ ghost use Rattle.croner_scheduler.specs.Kept.{Fits};
 ghost use Rattle.croner_scheduler.specs.Private.Latest.{CanGive, IsLastGiven};
 ghost use Rattle.croner_scheduler.specs.Private.Steps.{is_awaited_at, CanStand};
 
-use crate::add::{lacking, refused};
+use crate::add::{not_added, not_added_for_memory};
 use crate::jobs::{exchange, move_before_next, move_to, next_but_one, renew, step};
 use crate::latest::{Last, last_of};
 use crate::turns::{
@@ -137,7 +137,7 @@ impl<J: Recurring<T>, T: Clocked> Scheduler<J, T> {
         ensures wake_up { IsWakeUp J.runs (held_of T.moment self.now) result }
         ensures awaited { WakesFirst (held_of T.moment self.now) result }
     {
-        match self.nearest() {
+        match self.nearest_turn() {
             Some(turn) => Some(turn.second),
             None => None,
         }
@@ -156,7 +156,7 @@ impl<J: Recurring<T>, T: Clocked> Scheduler<J, T> {
         ensures refused { OnErr result (IsSame (held_of T.moment self.old) (held_of T.moment self.new)) }
         ensures due { OnErr result (IsSomeDue (held_of T.moment self.old) now) }
     {
-        match self.nearest() {
+        match self.nearest_turn() {
             Some(turn) => self.give_by(turn, now),
             None => Ok(None),
         }
@@ -178,11 +178,11 @@ impl<J: Recurring<T>, T: Clocked> Scheduler<J, T> {
         ensures same { OnErr result (IsSame (held_of T.moment self.old) (held_of T.moment self.new)) }
     {
         if self.has_no_id_left() {
-            return Err(refused(job, position, AddError::NoIdLeft));
+            return Err(not_added(job, position, AddError::NoIdLeft));
         }
         match position.at_second(position.second()) {
             Some(whole) => self.add_at(job, position, whole),
-            None => Err(refused(job, position, AddError::PositionNotHeld)),
+            None => Err(not_added(job, position, AddError::PositionNotHeld)),
         }
     }
 
@@ -201,11 +201,11 @@ impl<J: Recurring<T>, T: Clocked> Scheduler<J, T> {
         ensures same { OnErr result (IsSame (held_of T.moment self.old) (held_of T.moment self.new)) }
     {
         if self.has_no_id_left() {
-            return Err(refused(job, start, AddError::NoIdLeft));
+            return Err(not_added(job, start, AddError::NoIdLeft));
         }
         match second_before(&start) {
             Some(position) => self.add_at(job, start, position),
-            None => Err(refused(job, start, AddError::SecondBeforeNotHeld)),
+            None => Err(not_added(job, start, AddError::SecondBeforeNotHeld)),
         }
     }
 
@@ -230,11 +230,11 @@ impl<J: Recurring<T>, T: Clocked> Scheduler<J, T> {
         ensures same { OnErr result (IsSame (held_of T.moment self.old) (held_of T.moment self.new)) }
     {
         if self.get(id).is_none() {
-            return Err(refused(job, position, AddError::NoJob));
+            return Err(not_added(job, position, AddError::NoJob));
         }
         match position.at_second(position.second()) {
             Some(whole) => self.replace_at(id, job, position, whole),
-            None => Err(refused(job, position, AddError::PositionNotHeld)),
+            None => Err(not_added(job, position, AddError::PositionNotHeld)),
         }
     }
 
@@ -311,7 +311,7 @@ impl<J: Recurring<T>, T: Clocked> Scheduler<J, T> {
         }
         let next = next_of(&waiting.job, &waiting.position)?;
         change_turn(&mut self.turns, &waiting.next, &next, id)?;
-        let again = next.again();
+        let again = next.again_result();
         renew(&mut self.jobs, id, next);
         Ok(again)
     }
@@ -361,7 +361,7 @@ impl<J: Recurring<T>, T: Clocked> Scheduler<J, T> {
     }
 
     // The nearest run that is left.
-    fn nearest(&self) -> Option<Turn>
+    fn nearest_turn(&self) -> Option<Turn>
         ensures nearest { IsNearest J.runs (held_of T.moment self.now) result }
         ensures turn { IfSome result (λ turn. has_turn self.now.turns turn.second turn.id ≡ true) }
         ensures awaited { AwaitsFirst (held_of T.moment self.now) result }
@@ -448,9 +448,9 @@ impl<J: Recurring<T>, T: Clocked> Scheduler<J, T> {
         match Waiting::new(job, position) {
             Ok(waiting) => match self.put(id, waiting) {
                 Ok(replaced) => Ok(replaced),
-                Err(waiting) => Err(lacking(waiting, given)),
+                Err(waiting) => Err(not_added_for_memory(waiting, given)),
             },
-            Err(job) => Err(refused(job, given, AddError::OutOfMemory)),
+            Err(job) => Err(not_added(job, given, AddError::OutOfMemory)),
         }
     }
 
@@ -526,9 +526,9 @@ impl<J: Recurring<T>, T: Clocked> Scheduler<J, T> {
         match Waiting::new(job, position) {
             Ok(waiting) => match self.keep(waiting) {
                 Ok(added) => Ok(added),
-                Err(waiting) => Err(lacking(waiting, given)),
+                Err(waiting) => Err(not_added_for_memory(waiting, given)),
             },
-            Err(job) => Err(refused(job, given, AddError::OutOfMemory)),
+            Err(job) => Err(not_added(job, given, AddError::OutOfMemory)),
         }
     }
 

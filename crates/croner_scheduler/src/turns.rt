@@ -84,7 +84,7 @@ pub(crate) fn take_out_next<T: Clocked>(turns: &mut BTreeSet<(i64, u64)>, next: 
 }
 
 // Replaces the turn of a job's old next run by that of its new one.
-#[tactic(auto, using(crate::proofs::Puts::taken_behind, crate::proofs::Puts::kept_turn))]
+#[tactic(auto, using(crate::proofs::Puts::taken_after, crate::proofs::Puts::kept_turn))]
 pub(crate) fn change_turn<T: Clocked>(
     turns: &mut BTreeSet<(i64, u64)>,
     old: &Next<T>,

@@ -42,7 +42,7 @@ impl<T> Next<T> {
     }
 
     // The result of searching a stopped job again, if it has this next from now on.
-    pub(crate) fn again(&self) -> Again
+    pub(crate) fn again_result(&self) -> Again
         ensures { result ≡ again_of (is_some (stop_of self.now)) }
     {
         if self.is_stopped() {

@@ -6,7 +6,8 @@
 use super::reasons::{reason_of, words_of_cron};
 use croncheck_output::front::{COMMAND_BYTES, push_front};
 use croner::parser::{
-    CronParser, Expected, Hint, PatternFault, PatternField, Seconds, Suggestion, Year,
+    CronParser, Expected, ExpectedCharacter, ExpectedStar, ExpectedStep, ExpectedValue, FieldsHint,
+    Hint, PatternFault, PatternField, Seconds, SignHint, Suggestion, TextHint, Year,
 };
 use crontab::bytes::{Kind, begins_with, cut, rest_of};
 use crontab::line::Fault;
@@ -275,29 +276,38 @@ fn pattern_of(alloc: Global, fault: Fault, part: &str) -> Result<String, AllocEr
 // Puts after a text what was expected, where it says more than which values the field takes, and holds for cron.
 fn push_expected(text: &mut String, expected: &Expected) -> Result<bool, AllocError> {
     match expected {
-        Expected::RangeToStep { suggestion } => {
+        Expected::Step(ExpectedStep::RangeBefore { suggestion }) => {
             let stepped = Stepped {
                 suggestion: *suggestion,
             };
             write!(text, ": a step stands behind * or a range{stepped}")?;
         }
-        Expected::Legal { hint, .. } if holds_for_cron(*hint) => {
+        Expected::Character(ExpectedCharacter::Legal { hint, .. }) if holds_for_cron(*hint) => {
             write!(text, ": this sign has no meaning here.{hint}")?;
         }
-        Expected::Number {
-            hint: Hint::None,
-            ..
+        Expected::Value(
+            ExpectedValue::Number {
+                hint: Hint::None,
+                ..
+            },
+        )
+        | Expected::Value(ExpectedValue::Ascending { .. })
+        | Expected::Character(ExpectedCharacter::Legal { .. })
+        | Expected::Step(ExpectedStep::Shorter | ExpectedStep::FirstAlone { .. })
+        | Expected::Star(ExpectedStar::QuestionAlone | ExpectedStar::OneQuestion)
+        | Expected::Text(_)
+        | Expected::Nickname(_)
+        | Expected::Day(_) => return Ok(false),
+        Expected::Character(ExpectedCharacter::Name { .. })
+        | Expected::Value(
+            ExpectedValue::Number { .. }
+            | ExpectedValue::NumberBeside { .. }
+            | ExpectedValue::OneSign { .. },
+        )
+        | Expected::Step(ExpectedStep::Number { .. } | ExpectedStep::WithoutUnit { .. })
+        | Expected::Star(ExpectedStar::StarAlone | ExpectedStar::OneStar) => {
+            write!(text, ": {expected}")?;
         }
-        | Expected::Legal { .. } => return Ok(false),
-        Expected::Name { .. }
-        | Expected::Number { .. }
-        | Expected::NumberBeside { .. }
-        | Expected::OneSign { .. }
-        | Expected::Step { .. }
-        | Expected::StepAlone { .. }
-        | Expected::StarAlone
-        | Expected::OneStar => write!(text, ": {expected}")?,
-        _ => return Ok(false),
     }
     Ok(true)
 }
@@ -306,12 +316,9 @@ fn push_expected(text: &mut String, expected: &Expected) -> Result<bool, AllocEr
 fn holds_for_cron(hint: Hint) -> bool {
     matches!(
         hint,
-        Hint::Interval { .. }
-            | Hint::NamesTogether
-            | Hint::TimeOfDay
-            | Hint::Quotes
-            | Hint::Dash
-            | Hint::Midnight
+        Hint::Text(TextHint::Interval { .. } | TextHint::Quotes)
+            | Hint::Fields(FieldsHint::TimeOfDay)
+            | Hint::Sign(SignHint::NamesTogether | SignHint::Dash | SignHint::Midnight)
     )
 }
 

@@ -1,10 +1,11 @@
 //! The years of a job in few words.
 
-ghost use Rattle.std.specs.Prelude.{◌≡◌, ◌≤◌, ℕ, true, false, IfOk, IfErr, IsTrue};
+ghost use Rattle.std.specs.Prelude.{◌≡◌, ◌≤◌, ℕ, true, false, IfOk, IfErr, OnErr, MatchOption};
 ghost use Rattle.std.specs.Int.{IsInRange};
 ghost use Rattle.croner_base.specs.Limits.{first_year, last_year};
 ghost use Rattle.croner_pattern.specs.Schedule.{is_plain};
 ghost use Rattle.croner_pattern.specs.Shapes.{is_like, year_shape};
+ghost use Rattle.croner.specs.compact.YearRuns.{IsRun, IsOneRun};
 
 use croner_base::component::{ALL_BIT, CronComponent};
 use croner_base::errors::CronError;
@@ -51,7 +52,8 @@ fn is_named(field: &CronComponent, year: u16) -> bool
 #[tactic(auto, using(crate::proofs::compact::RunYears::named_between, crate::proofs::compact::RunYears::none_from, crate::proofs::compact::RunYears::none_to))]
 fn years_between(field: &CronComponent) -> YearRun
     requires { is_like field.now.shape year_shape ≡ true }
-    ensures { (year : ℕ) → is_plain field.now year ≡ true → IsInRange result.first result.last year }
+    ensures within { (year : ℕ) → is_plain field.now year ≡ true → IsInRange result.first result.last year }
+    ensures ends { result.first ≤ result.last → (is_plain field.now result.first ≡ true) × (is_plain field.now result.last ≡ true) }
 {
     match (field.least_from(FIRST_YEAR), field.greatest_to(LAST_YEAR)) {
         (Some(first), Some(last)) => YearRun { first, last },
@@ -62,22 +64,30 @@ fn years_between(field: &CronComponent) -> YearRun
     }
 }
 
-// Whether a field names each year of a run.
-fn is_run(field: &CronComponent, run: YearRun) -> bool
-    ensures { IsTrue result → (year : ℕ) → IsInRange run.first run.last year → is_plain field.now year ≡ true }
+// The run of years that a field names, if they are one.
+fn run_of(field: &CronComponent) -> Option<YearRun>
+    requires { is_like field.now.shape year_shape ≡ true }
+    ensures { MatchOption result (IsOneRun field.now → ⊥) (λ run. IsRun field.now run.first run.last) }
 {
-    for year in run.first..run.last + 1 {
-        if !is_named(field, year) {
-            return false;
-        }
+    let run = years_between(field);
+    if field.count_set_values(ALL_BIT) == run.len() {
+        Some(run)
+    } else {
+        None
     }
-    true
 }
 
 impl YearRun {
-    ghost use Rattle.std.specs.Prelude.{◌&&◌, nat_le, Some, None, if◌then◌else◌};
+    ghost use Rattle.std.specs.Prelude.{◌+◌, ◌-◌, ◌&&◌, nat_le, Some, None, if◌then◌else◌};
     ghost use Rattle.croner_pattern.specs.Questions.{IsNearestMember};
     ghost use Rattle.croner.specs.compact.WordFields.{field_of, run_sum};
+
+    // How many they are.
+    fn len(self) -> usize
+        ensures { result ≡ (self.last + 1) - self.first }
+    {
+        usize::from(self.last + 1).saturating_sub(usize::from(self.first))
+    }
 
     // Whether a year is one of them.
     #[inline(always)]
@@ -116,9 +126,9 @@ impl Years {
         requires { is_like field.now.shape year_shape ≡ true }
         ensures ok { IfOk result (λ years. (year : ℕ) → is_plain (years_field years) year ≡ is_plain field.now year) }
         ensures err { IfErr result (λ e. e ≡ CronError.OutOfMemory) }
+        ensures lacks { OnErr result (IsOneRun field.now → ⊥) }
     {
-        let run = years_between(field);
-        if is_run(field, run) {
+        if let Some(run) = run_of(field) {
             return Ok(Years::Run(run));
         }
         let field = field.clone()?;

@@ -8,7 +8,7 @@ ghost use Rattle.croner.specs.Private.parser.Steps.{refusal_of};
 use super::CronParser;
 use super::counts::most_fields;
 use super::escapes::found_at;
-use super::fault::{Expected, Hint, PatternFault};
+use super::fault::{Expected, ExpectedText, FieldsHint, Hint, PatternFault, TextHint};
 use super::pieces::words_of;
 use super::place::fault_at;
 use super::second_reading::find_fault;
@@ -112,19 +112,29 @@ impl CronParser {
     }
 }
 
-/// The bytes that a message repeats: the fault's place, or the whole text if it has too few fields.
+/// The bytes that a message repeats: the fault's place, or the whole text where the fault is of all its words.
 fn bytes_to_repeat(text: &str, fault: &PatternFault) -> (usize, usize) {
-    match fault.expected {
-        Expected::Count {
-            hint: Hint::Setting | Hint::Comment | Hint::NoSecond | Hint::NoSecondAndYear,
-            ..
-        } => (0, text.len()),
-        Expected::Count {
+    if let Expected::Text(
+        ExpectedText::Count {
             found,
             seconds,
             year,
-            ..
-        } if found <= most_fields(seconds, year) => (0, text.len()),
-        _ => (fault.start, fault.end),
+            hint,
+        },
+    ) = fault.expected
+    {
+        if found <= most_fields(seconds, year) || is_of_all_words(hint) {
+            return (0, text.len());
+        }
     }
+    (fault.start, fault.end)
+}
+
+/// Whether a hint is of the words in front: a setting, a comment, or a first field too many.
+fn is_of_all_words(hint: Hint) -> bool {
+    matches!(
+        hint,
+        Hint::Text(TextHint::Setting | TextHint::Comment)
+            | Hint::Fields(FieldsHint::NoSecond | FieldsHint::NoSecondAndYear)
+    )
 }

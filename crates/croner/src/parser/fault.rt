@@ -70,18 +70,25 @@ impl PatternField {
 pub enum Hint {
     /// There is nothing to add.
     None,
+    /// The count of fields, or where one ends.
+    Fields(FieldsHint),
+    /// What the text is, or what it has besides a pattern.
+    Text(TextHint),
+    /// A sign or a name that means nothing there.
+    Sign(SignHint),
+}
+
+/// What may have gone wrong with the count of fields.
+#[derive(Debug, Clone, Copy, PartialEq, Eq)]
+pub enum FieldsHint {
     /// Six fields begin with the second; with a `0` before them the last is the year.
-    SixFields,
+    Six,
     /// Six fields begin with the second, and these settings have no year.
-    SixFieldsWithoutYear,
+    SixWithoutYear,
     /// A space beside a comma: a space begins a new field.
     SpaceAfterComma,
     /// A space inside a range or a step: a space begins a new field.
     SpaceInPart,
-    /// A pattern ends before the command of a crontab's line.
-    Command,
-    /// A pattern ends before the command of a crontab's line, which comes after so many fields.
-    CommandAfter { fields: usize },
     /// These settings have no second: the first field is one too many.
     NoSecond,
     /// These settings have no year: the last field is one too many.
@@ -94,26 +101,40 @@ pub enum Hint {
     YearAtEnd,
     /// A second and a year are required: a `0` before the pattern and a `*` at its end mean the same.
     SecondAndYear,
-    /// The sign is legal in other fields: `L`, `W`, `?`, `#` or `+`.
-    SignElsewhere { sign: char },
-    /// A field that has no `?` is just `?`: `*` means the same.
-    StarForQuestion,
+    /// The minute and the hour are two fields.
+    TimeOfDay,
+}
+
+/// What a text may be that is no pattern, or what it may have besides one.
+#[derive(Debug, Clone, Copy, PartialEq, Eq)]
+pub enum TextHint {
+    /// A pattern ends before the command of a crontab's line.
+    Command,
+    /// A pattern ends before the command of a crontab's line, which comes after so many fields.
+    CommandAfter { fields: usize },
     /// An interval is written as a step, as in this pattern.
     Interval { pattern: &'static str },
     /// There is a line feed at this character, from 1, and another line after it.
     LineFeed { character: usize },
-    /// Two names need a comma between them.
-    NamesTogether,
-    /// The minute and the hour are two fields.
-    TimeOfDay,
+    /// A nickname begins with `@`.
+    AtSign { nickname: &'static str },
     /// A pattern has no quotes around it.
     Quotes,
     /// A pattern has no setting before it.
     Setting,
     /// A comment is no pattern.
     Comment,
-    /// A nickname begins with `@`.
-    AtSign { nickname: &'static str },
+}
+
+/// What may have been meant by a sign, a name or a number.
+#[derive(Debug, Clone, Copy, PartialEq, Eq)]
+pub enum SignHint {
+    /// The sign is legal in other fields: `L`, `W`, `?`, `#` or `+`.
+    Elsewhere { sign: char },
+    /// A field that has no `?` is just `?`: `*` means the same.
+    StarForQuestion,
+    /// Two names need a comma between them.
+    NamesTogether,
     /// A dash is `-` alone.
     Dash,
     /// The name is that of a month, in another field.
@@ -162,9 +183,39 @@ pub enum ValueNames {
     QuartzWeekdays,
 }
 
+/// The values that a field may have.
+#[derive(Debug, Clone, Copy, PartialEq, Eq)]
+pub struct FieldValues {
+    /// The least number.
+    pub least: u16,
+    /// The greatest number.
+    pub greatest: u16,
+    /// The names for them, if there are any.
+    pub names: ValueNames,
+}
+
 /// What was expected at the place of a fault.
 #[derive(Debug, Clone, Copy, PartialEq, Eq)]
 pub enum Expected {
+    /// Another text.
+    Text(ExpectedText),
+    /// Another nickname, or none.
+    Nickname(ExpectedNickname),
+    /// Another character.
+    Character(ExpectedCharacter),
+    /// Another value, or another range.
+    Value(ExpectedValue),
+    /// Another step.
+    Step(ExpectedStep),
+    /// A star or a question mark alone, or one of them.
+    Star(ExpectedStar),
+    /// Another use of `#`, `L` or `W`.
+    Day(ExpectedDay),
+}
+
+/// What was expected of a whole text.
+#[derive(Debug, Clone, Copy, PartialEq, Eq)]
+pub enum ExpectedText {
     /// A pattern, not just white space.
     Pattern,
     /// Another count of fields: these settings accept others.
@@ -176,28 +227,34 @@ pub enum Expected {
     },
     /// Other settings: these accept no text.
     Settings,
+}
+
+/// What was expected of a text with `@`.
+#[derive(Debug, Clone, Copy, PartialEq, Eq)]
+pub enum ExpectedNickname {
     /// One of the six nicknames.
-    Nickname,
+    Known,
     /// The nickname `@daily`, which means the same as `@midnight`.
-    NicknameOfMidnight,
+    Daily,
     /// One of the six nicknames; `@reboot` names no time.
-    NicknameOfTime,
+    OfTime,
     /// A step in place of `@every`, as in this pattern.
-    NicknameOfInterval {
-        pattern: &'static str,
-    },
+    Interval { pattern: &'static str },
     /// Seven fields: the settings require a year.
-    NicknameWithoutYear,
+    WithoutYear,
     /// Seven fields: `@reboot` names no time, and the settings require a year.
-    NicknameOfTimeWithoutYear,
+    OfTimeWithoutYear,
     /// Seven fields: there is no such nickname, and the settings require a year.
-    NoNicknameWithoutYear,
+    KnownWithoutYear,
     /// The pattern in seven fields: the nickname has too few for these settings.
-    NicknameInFields {
-        pattern: &'static str,
-    },
+    InFields { pattern: &'static str },
     /// No `@`: it may only begin a nickname.
     NoAtSign,
+}
+
+/// What was expected in place of an illegal character.
+#[derive(Debug, Clone, Copy, PartialEq, Eq)]
+pub enum ExpectedCharacter {
     /// A name of three letters: the one that the text begins with.
     Name {
         name: &'static str,
@@ -208,20 +265,21 @@ pub enum Expected {
         quartz: bool,
         hint: Hint,
     },
+}
+
+/// What was expected of a value, or of two with a sign between them.
+#[derive(Debug, Clone, Copy, PartialEq, Eq)]
+pub enum ExpectedValue {
     /// A number of the field, or a name for it.
     Number {
-        least: u16,
-        greatest: u16,
-        names: ValueNames,
+        values: FieldValues,
         hint: Hint,
     },
     /// A number of the field before or after a sign, or a name for it.
     NumberBeside {
         sign: char,
         after: bool,
-        least: u16,
-        greatest: u16,
-        names: ValueNames,
+        values: FieldValues,
         hint: Hint,
     },
     /// A range that goes up.
@@ -232,24 +290,26 @@ pub enum Expected {
     OneSign {
         sign: char,
     },
+}
+
+/// What was expected of a step.
+#[derive(Debug, Clone, Copy, PartialEq, Eq)]
+pub enum ExpectedStep {
     /// The step, a number from 1 on.
-    Step {
-        hint: Hint,
-    },
+    Number { hint: Hint },
     /// A step that doesn't pass the greatest number.
-    ShorterStep,
+    Shorter,
     /// The first value alone: the step doesn't reach a second one.
-    FirstAlone {
-        first: u16,
-    },
+    FirstAlone { first: u16 },
     /// A step from the field's least value on, without the unit after it.
-    StepAlone {
-        step: u16,
-    },
+    WithoutUnit { step: u16 },
     /// A star or a range before the `/`.
-    RangeToStep {
-        suggestion: Suggestion,
-    },
+    RangeBefore { suggestion: Suggestion },
+}
+
+/// What was expected of a star or a question mark.
+#[derive(Debug, Clone, Copy, PartialEq, Eq)]
+pub enum ExpectedStar {
     /// A star alone in its field.
     StarAlone,
     /// A question mark alone in its field.
@@ -258,6 +318,11 @@ pub enum Expected {
     OneStar,
     /// One question mark.
     OneQuestion,
+}
+
+/// What was expected of `#`, `L` or `W`.
+#[derive(Debug, Clone, Copy, PartialEq, Eq)]
+pub enum ExpectedDay {
     /// A number from 1 to 5 or `L` after the `#`.
     Nth,
     /// `L` alone, or `LW`, in the day of month.

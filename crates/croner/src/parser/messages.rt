@@ -1,6 +1,10 @@
 //! The words of error messages, all in one place.
 
-use super::fault::{Expected, Hint, PatternFault, PatternField, Suggestion, ValueNames};
+use super::fault::{
+    Expected, ExpectedCharacter, ExpectedDay, ExpectedNickname, ExpectedStar, ExpectedStep,
+    ExpectedText, ExpectedValue, FieldValues, FieldsHint, Hint, PatternFault, PatternField,
+    SignHint, Suggestion, TextHint, ValueNames,
+};
 use super::{Seconds, Year};
 use std::fmt;
 
@@ -26,14 +30,91 @@ impl fmt::Display for PatternFault {
 impl fmt::Display for Expected {
     fn fmt<W: fmt::Write>(&self, f: &mut fmt::Formatter<W>) -> fmt::Result {
         match self {
-            Expected::Legal {
+            Expected::Text(text) => write!(f, "{text}"),
+            Expected::Nickname(nickname) => write!(f, "{nickname}"),
+            Expected::Character(character) => write!(f, "{character}"),
+            Expected::Value(value) => write!(f, "{value}"),
+            Expected::Step(step) => write!(f, "{step}"),
+            Expected::Star(star) => f.write_str(star.sentence()),
+            Expected::Day(day) => f.write_str(day.sentence()),
+        }
+    }
+}
+
+impl fmt::Display for ExpectedText {
+    fn fmt<W: fmt::Write>(&self, f: &mut fmt::Formatter<W>) -> fmt::Result {
+        match *self {
+            ExpectedText::Pattern => f.write_str("expected a pattern."),
+            ExpectedText::Count {
+                found,
+                seconds,
+                year,
+                hint,
+            } => {
+                let fields = if found == 1 { "field" } else { "fields" };
+                let counts = expected_counts(seconds, year);
+                write!(
+                    f,
+                    "the pattern has {found} {fields}, but {counts} are expected.{hint}"
+                )
+            }
+            ExpectedText::Settings => f.write_str(
+                "these settings accept no text, since they want a year and no seconds.",
+            ),
+        }
+    }
+}
+
+impl fmt::Display for ExpectedNickname {
+    fn fmt<W: fmt::Write>(&self, f: &mut fmt::Formatter<W>) -> fmt::Result {
+        match *self {
+            ExpectedNickname::Known => f.write_str(
+                "no such nickname: they are @yearly, @annually, @monthly, @weekly, @daily and @hourly.",
+            ),
+            ExpectedNickname::Daily => f.write_str(
+                "no such nickname, but one that says the same: write @daily.",
+            ),
+            ExpectedNickname::OfTime => f.write_str(
+                "@reboot names no time: the nicknames are @yearly, @annually, @monthly, @weekly, @daily and @hourly.",
+            ),
+            ExpectedNickname::Interval { pattern } => write!(
+                f,
+                "no such nickname: an interval is a step, as in {pattern} for each fifth minute."
+            ),
+            ExpectedNickname::WithoutYear => f.write_str(
+                "these settings want a year, which a nickname has not: write seven fields.",
+            ),
+            ExpectedNickname::OfTimeWithoutYear => f.write_str(
+                "@reboot names no time, and these settings want a year, which a nickname has not: write seven fields.",
+            ),
+            ExpectedNickname::KnownWithoutYear => f.write_str(
+                "no such nickname, and these settings want a year, which a nickname has not: write seven fields.",
+            ),
+            ExpectedNickname::InFields { pattern } => write!(
+                f,
+                "these settings want a year, which a nickname has not: write {pattern}."
+            ),
+            ExpectedNickname::NoAtSign => f.write_str(
+                "a pattern has no '@': one stands in front of a nickname alone, as in @daily.",
+            ),
+        }
+    }
+}
+
+impl fmt::Display for ExpectedCharacter {
+    fn fmt<W: fmt::Write>(&self, f: &mut fmt::Formatter<W>) -> fmt::Result {
+        match *self {
+            ExpectedCharacter::Name { name } => {
+                write!(f, "a name has three letters: write {name}.")
+            }
+            ExpectedCharacter::Legal {
                 field,
                 quartz,
                 hint,
             } => {
-                let values = values_of(*field, *quartz);
-                let signs = signs_of(*field);
-                if *hint == Hint::None {
+                let values = values_of(field, quartz);
+                let signs = signs_of(field);
+                if hint == Hint::None {
                     return write!(f, "expected {values} and the signs {signs}.");
                 }
                 write!(
@@ -41,255 +122,183 @@ impl fmt::Display for Expected {
                     "this character is not legal here.{hint} Legal are {values} and the signs {signs}."
                 )
             }
-            Expected::Name { name } => write!(f, "a name has three letters: write {name}."),
-            Expected::Ascending {
-                suggestion: Suggestion::None,
-            } => f.write_str("a range runs from the lower value to the higher one."),
-            Expected::Ascending { suggestion } => write!(f, "a range goes up{suggestion}."),
-            Expected::OneSign { sign } => write!(f, "expected one '{sign}' in a part."),
-            Expected::RangeToStep { suggestion } => write!(
-                f,
-                "expected '*' or a range before the '/'{suggestion}, or let the parser take sloppy ranges."
-            ),
-            other => other.write_number(f),
         }
     }
 }
 
-impl Expected {
-    /// Which number was expected; also the sentences without a number.
-    fn write_number<W: fmt::Write>(&self, f: &mut fmt::Formatter<W>) -> fmt::Result {
+impl fmt::Display for ExpectedValue {
+    fn fmt<W: fmt::Write>(&self, f: &mut fmt::Formatter<W>) -> fmt::Result {
         match *self {
-            Expected::Number {
-                least,
-                greatest,
-                names,
-                hint,
-            } => {
-                let value = AnyValue {
-                    least,
-                    greatest,
-                    names,
-                };
-                write!(f, "expected {value}.{hint}")
-            }
-            Expected::NumberBeside {
+            ExpectedValue::Number { values, hint } => write!(f, "expected {values}.{hint}"),
+            ExpectedValue::NumberBeside {
                 sign,
                 after,
-                least,
-                greatest,
-                names,
+                values,
                 hint,
             } => {
                 let side = if after { "behind" } else { "in front of" };
-                let value = AnyValue {
-                    least,
-                    greatest,
-                    names,
-                };
-                write!(f, "expected {value} {side} the '{sign}'.{hint}")
+                write!(f, "expected {values} {side} the '{sign}'.{hint}")
             }
-            other => other.write_count(f),
-        }
-    }
-
-    /// Which counts of fields were expected; also the other sentences.
-    fn write_count<W: fmt::Write>(&self, f: &mut fmt::Formatter<W>) -> fmt::Result {
-        match self {
-            Expected::Count {
-                found,
-                seconds,
-                year,
-                hint,
-            } => {
-                let fields = if *found == 1 { "field" } else { "fields" };
-                let counts = expected_counts(*seconds, *year);
-                write!(
-                    f,
-                    "the pattern has {found} {fields}, but {counts} are expected.{hint}"
-                )
-            }
-            Expected::NicknameInFields { pattern } => write!(
-                f,
-                "these settings want a year, which a nickname has not: write {pattern}."
-            ),
-            Expected::NicknameOfInterval { pattern } => write!(
-                f,
-                "no such nickname: an interval is a step, as in {pattern} for each fifth minute."
-            ),
-            Expected::Step { hint } => {
-                write!(f, "expected a step from 1 to 65535 behind the '/'.{hint}")
-            }
-            Expected::FirstAlone { first } => {
-                write!(
-                    f,
-                    "this step reaches no second value. Write {first} alone, with no step."
-                )
-            }
-            Expected::StepAlone { step } => {
-                write!(f, "a step is a number alone: write */{step}.")
-            }
-            other => f.write_str(other.sentence()),
-        }
-    }
-
-    /// What was expected, for a sentence without a number or a hint.
-    fn sentence(&self) -> &'static str {
-        match self {
-            Expected::ShorterStep => {
-                "the step is too long: the value after the last one may be at most 65535."
-            }
-            Expected::StarAlone => {
-                "a '*' names every value, and stands alone in its field or in front of a '/': leave it out, or leave out the rest."
-            }
-            Expected::QuestionAlone => {
-                "a '?' stands for '*', which names every value: leave it out, or leave out the rest."
-            }
-            Expected::OneStar => "expected one '*', which names every value.",
-            Expected::OneQuestion => "expected one '?', which stands for '*'.",
-            Expected::Nth => "expected a number from 1 to 5 or L behind the '#'.",
-            other => match other.sentence_of_days() {
-                Some(sentence) => sentence,
-                None => other.sentence_of_text(),
-            },
-        }
-    }
-
-    /// What was expected of an `L` or a `W`.
-    fn sentence_of_days(&self) -> Option<&'static str> {
-        let sentence = match self {
-            Expected::LastAlone => {
-                "L stands by itself between commas, for the last day of the month, or as LW, for the last one from Monday to Friday."
-            }
-            Expected::LastCountedBack => {
-                "no day can be counted back from the last one: L is the last day of the month, and LW the last one from Monday to Friday."
-            }
-            Expected::LastOfWeekday => {
-                "behind a weekday L stands in the field weekday: here it stands by itself between commas, for the last day of the month, or as LW, for the last one from Monday to Friday."
-            }
-            Expected::LastAfterWeekday => {
-                "L stands behind one weekday: 5L is the last Friday of the month."
-            }
-            Expected::NearestAfterDay => {
-                "W stands behind one day of the month: 15W is the day from Monday to Friday that is nearest to the 15th."
-            }
-            Expected::LastNearest => "the last day of the month from Monday to Friday is LW.",
-            _ => return None,
-        };
-        Some(sentence)
-    }
-
-    /// What was expected of a whole text, or of one with `@`.
-    fn sentence_of_text(&self) -> &'static str {
-        match self {
-            Expected::Settings => {
-                "these settings accept no text, since they want a year and no seconds."
-            }
-            Expected::Nickname => NICKNAMES,
-            Expected::NicknameOfMidnight => {
-                "no such nickname, but one that says the same: write @daily."
-            }
-            Expected::NicknameOfTime => {
-                "@reboot names no time: the nicknames are @yearly, @annually, @monthly, @weekly, @daily and @hourly."
-            }
-            Expected::NicknameWithoutYear => {
-                "these settings want a year, which a nickname has not: write seven fields."
-            }
-            Expected::NicknameOfTimeWithoutYear => {
-                "@reboot names no time, and these settings want a year, which a nickname has not: write seven fields."
-            }
-            Expected::NoNicknameWithoutYear => {
-                "no such nickname, and these settings want a year, which a nickname has not: write seven fields."
-            }
-            Expected::NoAtSign => {
-                "a pattern has no '@': one stands in front of a nickname alone, as in @daily."
-            }
-            _ => "expected a pattern.",
+            ExpectedValue::Ascending {
+                suggestion: Suggestion::None,
+            } => f.write_str("a range runs from the lower value to the higher one."),
+            ExpectedValue::Ascending { suggestion } => write!(f, "a range goes up{suggestion}."),
+            ExpectedValue::OneSign { sign } => write!(f, "expected one '{sign}' in a part."),
         }
     }
 }
 
-const NICKNAMES: &str =
-    "no such nickname: they are @yearly, @annually, @monthly, @weekly, @daily and @hourly.";
+impl fmt::Display for ExpectedStep {
+    fn fmt<W: fmt::Write>(&self, f: &mut fmt::Formatter<W>) -> fmt::Result {
+        match *self {
+            ExpectedStep::Number { hint } => {
+                write!(f, "expected a step from 1 to 65535 behind the '/'.{hint}")
+            }
+            ExpectedStep::Shorter => f.write_str(
+                "the step is too long: the value after the last one may be at most 65535.",
+            ),
+            ExpectedStep::FirstAlone { first } => write!(
+                f,
+                "this step reaches no second value. Write {first} alone, with no step."
+            ),
+            ExpectedStep::WithoutUnit { step } => {
+                write!(f, "a step is a number alone: write */{step}.")
+            }
+            ExpectedStep::RangeBefore { suggestion } => write!(
+                f,
+                "expected '*' or a range before the '/'{suggestion}, or let the parser take sloppy ranges."
+            ),
+        }
+    }
+}
+
+impl ExpectedStar {
+    fn sentence(&self) -> &'static str {
+        match self {
+            ExpectedStar::StarAlone => {
+                "a '*' names every value, and stands alone in its field or in front of a '/': leave it out, or leave out the rest."
+            }
+            ExpectedStar::QuestionAlone => {
+                "a '?' stands for '*', which names every value: leave it out, or leave out the rest."
+            }
+            ExpectedStar::OneStar => "expected one '*', which names every value.",
+            ExpectedStar::OneQuestion => "expected one '?', which stands for '*'.",
+        }
+    }
+}
+
+impl ExpectedDay {
+    fn sentence(&self) -> &'static str {
+        match self {
+            ExpectedDay::Nth => "expected a number from 1 to 5 or L behind the '#'.",
+            ExpectedDay::LastAlone => {
+                "L stands by itself between commas, for the last day of the month, or as LW, for the last one from Monday to Friday."
+            }
+            ExpectedDay::LastCountedBack => {
+                "no day can be counted back from the last one: L is the last day of the month, and LW the last one from Monday to Friday."
+            }
+            ExpectedDay::LastOfWeekday => {
+                "behind a weekday L stands in the field weekday: here it stands by itself between commas, for the last day of the month, or as LW, for the last one from Monday to Friday."
+            }
+            ExpectedDay::LastAfterWeekday => {
+                "L stands behind one weekday: 5L is the last Friday of the month."
+            }
+            ExpectedDay::NearestAfterDay => {
+                "W stands behind one day of the month: 15W is the day from Monday to Friday that is nearest to the 15th."
+            }
+            ExpectedDay::LastNearest => "the last day of the month from Monday to Friday is LW.",
+        }
+    }
+}
 
 /// The hint as a sentence to follow another, with a space before it; empty if there is none.
 impl fmt::Display for Hint {
     fn fmt<W: fmt::Write>(&self, f: &mut fmt::Formatter<W>) -> fmt::Result {
-        match *self {
-            Hint::AtSign { nickname } => {
-                write!(f, " A nickname begins with '@': write {nickname}.")
-            }
-            Hint::CommandAfter { fields } => write!(
-                f,
-                " If a user, a command or a comment stands behind the first {fields} fields, leave all of it out: a pattern ends before it."
-            ),
-            Hint::Interval { pattern } => {
-                write!(
-                    f,
-                    " An interval is a step, as in {pattern} for each fifth minute."
-                )
-            }
-            Hint::LineFeed { character } => write!(
-                f,
-                " The text has a line feed at character {character}, and a pattern is one line."
-            ),
-            other => f.write_str(other.words()),
+        match self {
+            Hint::None => Ok(()),
+            Hint::Fields(hint) => f.write_str(hint.words()),
+            Hint::Text(hint) => write!(f, "{hint}"),
+            Hint::Sign(hint) => f.write_str(hint.words()),
         }
     }
 }
 
-impl Hint {
-    fn words(self) -> &'static str {
+impl FieldsHint {
+    fn words(&self) -> &'static str {
         match self {
-            Hint::None => "",
-            Hint::SixFields => {
+            FieldsHint::Six => {
                 " Six fields begin with the second: where the last is a year, write 0 in front of the six."
             }
-            Hint::SixFieldsWithoutYear => {
+            FieldsHint::SixWithoutYear => {
                 " Six fields begin with the second, and these settings take no year."
             }
-            Hint::SpaceAfterComma => {
+            FieldsHint::SpaceAfterComma => {
                 " A space begins a new field: leave it out beside the commas of a list."
             }
-            Hint::SpaceInPart => {
+            FieldsHint::SpaceInPart => {
                 " A space begins a new field: leave it out inside a range or a step."
             }
-            Hint::Command => {
-                " If a user, a command or a comment stands here, leave it out: a pattern ends before it."
-            }
-            Hint::SignElsewhere { sign } => sign_words(sign),
-            other => other.words_of_text(),
-        }
-    }
-
-    /// The words of the other hints.
-    fn words_of_text(self) -> &'static str {
-        match self {
-            Hint::NoSecond => " These settings take no second: leave out the first field.",
-            Hint::NoYear => " These settings take no year: leave out the last field.",
-            Hint::NoSecondAndYear => {
+            FieldsHint::NoSecond => " These settings take no second: leave out the first field.",
+            FieldsHint::NoYear => " These settings take no year: leave out the last field.",
+            FieldsHint::NoSecondAndYear => {
                 " These settings take neither a second nor a year: leave out the first field and the last."
             }
-            Hint::SecondInFront => " Write 0 in front, for the second.",
-            Hint::YearAtEnd => " Write * at the end, for any year.",
-            Hint::SecondAndYear => {
+            FieldsHint::SecondInFront => " Write 0 in front, for the second.",
+            FieldsHint::YearAtEnd => " Write * at the end, for any year.",
+            FieldsHint::SecondAndYear => {
                 " Write 0 in front, for the second, and * at the end, for any year."
             }
-            Hint::StarForQuestion => {
+            FieldsHint::TimeOfDay => " The minute and the hour are two fields, the minute first.",
+        }
+    }
+}
+
+impl fmt::Display for TextHint {
+    fn fmt<W: fmt::Write>(&self, f: &mut fmt::Formatter<W>) -> fmt::Result {
+        match *self {
+            TextHint::Command => f.write_str(
+                " If a user, a command or a comment stands here, leave it out: a pattern ends before it.",
+            ),
+            TextHint::CommandAfter { fields } => write!(
+                f,
+                " If a user, a command or a comment stands behind the first {fields} fields, leave all of it out: a pattern ends before it."
+            ),
+            TextHint::Interval { pattern } => write!(
+                f,
+                " An interval is a step, as in {pattern} for each fifth minute."
+            ),
+            TextHint::LineFeed { character } => write!(
+                f,
+                " The text has a line feed at character {character}, and a pattern is one line."
+            ),
+            TextHint::AtSign { nickname } => {
+                write!(f, " A nickname begins with '@': write {nickname}.")
+            }
+            TextHint::Quotes => f.write_str(" Leave out the quotes."),
+            TextHint::Setting => f.write_str(
+                " A setting such as TZ=UTC is no part of a pattern: leave it out.",
+            ),
+            TextHint::Comment => f.write_str(" A comment is no pattern."),
+        }
+    }
+}
+
+impl SignHint {
+    fn words(&self) -> &'static str {
+        match self {
+            SignHint::Elsewhere { sign } => sign_words(*sign),
+            SignHint::StarForQuestion => {
                 " ? stands only in the day of month and in the weekday: write *."
             }
-            Hint::NamesTogether => " A comma stands between two names.",
-            Hint::TimeOfDay => " The minute and the hour are two fields, the minute first.",
-            Hint::Quotes => " Leave out the quotes.",
-            Hint::Setting => " A setting such as TZ=UTC is no part of a pattern: leave it out.",
-            Hint::Comment => " A comment is no pattern.",
-            Hint::Midnight => " Midnight is 0.",
-            Hint::Dash => " A range is written with a dash (-).",
-            Hint::MonthElsewhere => " Names of months stand in the month, and have three letters.",
-            Hint::WeekdayElsewhere => {
+            SignHint::NamesTogether => " A comma stands between two names.",
+            SignHint::Dash => " A range is written with a dash (-).",
+            SignHint::MonthElsewhere => {
+                " Names of months stand in the month, and have three letters."
+            }
+            SignHint::WeekdayElsewhere => {
                 " Names of weekdays stand in the weekday, and have three letters."
             }
-            _ => "",
+            SignHint::Midnight => " Midnight is 0.",
         }
     }
 }
@@ -330,7 +339,11 @@ fn signs_of(field: PatternField) -> &'static str {
         PatternField::Weekday => {
             "star (*), slash (/), comma (,), dash (-), question mark (?), number sign (#) and L behind a weekday (FRI#2, FRI#L) and one plus (+) in front"
         }
-        _ => "star (*), slash (/), comma (,) and dash (-)",
+        PatternField::Seconds
+        | PatternField::Minutes
+        | PatternField::Hours
+        | PatternField::Month
+        | PatternField::Year => "star (*), slash (/), comma (,) and dash (-)",
     }
 }
 
@@ -358,14 +371,7 @@ fn expected_counts(seconds: Seconds, year: Year) -> &'static str {
 }
 
 /// `a number from 1 to 12 or a name from JAN to DEC`.
-#[derive(Clone, Copy)]
-struct AnyValue {
-    least: u16,
-    greatest: u16,
-    names: ValueNames,
-}
-
-impl fmt::Display for AnyValue {
+impl fmt::Display for FieldValues {
     fn fmt<W: fmt::Write>(&self, f: &mut fmt::Formatter<W>) -> fmt::Result {
         let least = self.least;
         let greatest = self.greatest;

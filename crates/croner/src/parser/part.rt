@@ -1,6 +1,9 @@
 //! What is wrong in a refused part of a list, and where.
 
-use super::fault::{Expected, Hint, PatternField, Suggestion, ValueNames};
+use super::fault::{
+    Expected, ExpectedDay, ExpectedStar, ExpectedStep, ExpectedValue, FieldValues, FieldsHint,
+    Hint, PatternField, SignHint, Suggestion, ValueNames,
+};
 use super::pieces::Piece;
 use croner_base::time::{YEAR_LOWER_LIMIT, YEAR_UPPER_LIMIT};
 
@@ -33,47 +36,53 @@ impl Rules {
 
     /// A number of the field was expected.
     fn number(self) -> Expected {
-        let (least, greatest) = self.bounds();
-        Expected::Number {
-            least,
-            greatest,
-            names: self.names(),
+        Expected::Value(ExpectedValue::Number {
+            values: self.values(),
             hint: self.hint,
-        }
+        })
     }
 
     /// A number of the field was expected in place of a part of it.
     fn number_for(self, part: Part<'_>) -> Expected {
         let mut rules = self;
         if self.hint == Hint::None && self.field == PatternField::Hours && part.read == "24" {
-            rules.hint = Hint::Midnight;
+            rules.hint = Hint::Sign(SignHint::Midnight);
         }
         if self.hint == Hint::None && are_names(part.written.text) {
-            rules.hint = Hint::NamesTogether;
+            rules.hint = Hint::Sign(SignHint::NamesTogether);
         }
         rules.number()
     }
 
     /// A number of the field was expected beside a sign.
     fn number_beside(self, sign: char, after: bool) -> Expected {
-        let (least, greatest) = self.bounds();
-        Expected::NumberBeside {
+        Expected::Value(ExpectedValue::NumberBeside {
             sign,
             after,
-            least,
-            greatest,
-            names: self.names(),
+            values: self.values(),
             hint: self.hint,
-        }
+        })
     }
 
     /// A step was expected. The only possible hint is a space before or after it.
     fn step(self) -> Expected {
-        let hint = match self.hint {
-            Hint::SpaceInPart => Hint::SpaceInPart,
-            _ => Hint::None,
+        let space = Hint::Fields(FieldsHint::SpaceInPart);
+        let hint = if self.hint == space {
+            space
+        } else {
+            Hint::None
         };
-        Expected::Step { hint }
+        Expected::Step(ExpectedStep::Number { hint })
+    }
+
+    /// The values that the field may have.
+    fn values(self) -> FieldValues {
+        let (least, greatest) = self.bounds();
+        FieldValues {
+            least,
+            greatest,
+            names: self.names(),
+        }
     }
 
     /// How the values of the field may be written, besides as numbers.
@@ -82,7 +91,11 @@ impl Rules {
             PatternField::Month => ValueNames::Months,
             PatternField::Weekday if self.quartz => ValueNames::QuartzWeekdays,
             PatternField::Weekday => ValueNames::Weekdays,
-            _ => ValueNames::Numbers,
+            PatternField::Seconds
+            | PatternField::Minutes
+            | PatternField::Hours
+            | PatternField::DayOfMonth
+            | PatternField::Year => ValueNames::Numbers,
         }
     }
 
@@ -149,7 +162,7 @@ impl<'t> Part<'t> {
 pub fn fault_of_part(part: Part<'_>, rules: Rules) -> (Piece<'_>, Expected) {
     let head = head_of(part);
     let found = if part.read == "*" {
-        Some((part.written, expected_of_star(part)))
+        Some((part.written, Expected::Star(expected_of_star(part))))
     } else if let Some(sides) = head.split('/') {
         fault_of_step(part, sides, rules)
     } else if let Some(sides) = head.split('-') {
@@ -166,11 +179,16 @@ pub fn fault_of_part(part: Part<'_>, rules: Rules) -> (Piece<'_>, Expected) {
 }
 
 /// What was expected of a `*`, or a `?` for it, with something beside it: that it be alone.
-fn expected_of_star(part: Part<'_>) -> Expected {
+fn expected_of_star(part: Part<'_>) -> ExpectedStar {
     if part.written.text == "?" {
-        return Expected::QuestionAlone;
+        return ExpectedStar::QuestionAlone;
     }
-    Expected::StarAlone
+    ExpectedStar::StarAlone
+}
+
+/// One such sign was expected in a part.
+fn one_sign(sign: char) -> Expected {
+    Expected::Value(ExpectedValue::OneSign { sign })
 }
 
 /// The part before its first `#`.
@@ -188,12 +206,12 @@ fn fault_of_nth(part: Part<'_>) -> Option<(Piece<'_>, Expected)> {
         return None;
     }
     if sides.right.split('#').is_some() {
-        return Some((sides.right.written, Expected::OneSign { sign: '#' }));
+        return Some((sides.right.written, one_sign('#')));
     }
     match sides.right.number() {
         Some(1..=5) => None,
-        _ if sides.right.is_empty() => Some((sides.sign, Expected::Nth)),
-        _ => Some((sides.right.written, Expected::Nth)),
+        _ if sides.right.is_empty() => Some((sides.sign, Expected::Day(ExpectedDay::Nth))),
+        _ => Some((sides.right.written, Expected::Day(ExpectedDay::Nth))),
     }
 }
 
@@ -219,22 +237,30 @@ fn fault_of_value<'t>(value: Part<'t>, rules: Rules) -> Option<(Piece<'t>, Expec
         return Some((value.written, rules.number_for(value)));
     }
     let expected = match fault_of_modifier(value, rules) {
-        Some(expected) => expected,
-        None if is_many(value.written.text, b'*') => Expected::OneStar,
-        None if is_many(value.written.text, b'?') => Expected::OneQuestion,
+        Some(day) => Expected::Day(day),
+        None if is_many(value.written.text, b'*') => Expected::Star(ExpectedStar::OneStar),
+        None if is_many(value.written.text, b'?') => Expected::Star(ExpectedStar::OneQuestion),
         None => rules.number(),
     };
     Some((value.written, expected))
 }
 
 /// The place of an `L` or a `W`, if there is one in what should be a number.
-fn fault_of_modifier(value: Part<'_>, rules: Rules) -> Option<Expected> {
-    match rules.field {
-        PatternField::DayOfMonth if value.read.contains('L') => Some(Expected::LastAlone),
-        PatternField::DayOfMonth if value.read.contains('W') => Some(Expected::NearestAfterDay),
-        PatternField::Weekday if value.read.contains('L') => Some(Expected::LastAfterWeekday),
-        _ => None,
+fn fault_of_modifier(value: Part<'_>, rules: Rules) -> Option<ExpectedDay> {
+    let has_last = value.read.contains('L');
+    if has_last && rules.field == PatternField::Weekday {
+        return Some(ExpectedDay::LastAfterWeekday);
     }
+    if rules.field != PatternField::DayOfMonth {
+        return None;
+    }
+    if has_last {
+        return Some(ExpectedDay::LastAlone);
+    }
+    if value.read.contains('W') {
+        return Some(ExpectedDay::NearestAfterDay);
+    }
+    None
 }
 
 /// Whether a text is two or more of one character.
@@ -253,13 +279,13 @@ fn fault_of_range<'t>(
     rules: Rules,
 ) -> Option<(Piece<'t>, Expected)> {
     if let Some(second) = sides.right.split('-') {
-        return Some((second.sign, Expected::OneSign { sign: '-' }));
+        return Some((second.sign, one_sign('-')));
     }
     let faulty = fault_of_side(sides.left, sides.sign, false, rules);
     let faulty = faulty.or(fault_of_side(sides.right, sides.sign, true, rules));
-    if let Some((place, Expected::LastAlone)) = faulty {
+    if let Some((place, Expected::Day(ExpectedDay::LastAlone))) = faulty {
         if sides.left.read == "L" && sides.right.number().is_some() {
-            return Some((place, Expected::LastCountedBack));
+            return Some((place, Expected::Day(ExpectedDay::LastCountedBack)));
         }
     }
     if faulty.is_some() {
@@ -281,7 +307,10 @@ fn fault_of_range<'t>(
     } else {
         Suggestion::None
     };
-    Some((part.written, Expected::Ascending { suggestion }))
+    Some((
+        part.written,
+        Expected::Value(ExpectedValue::Ascending { suggestion }),
+    ))
 }
 
 /// A range that went past the greatest value, as ranges that go up. Years don't start over.
@@ -289,16 +318,15 @@ fn suggestion_of_range(left: Part<'_>, right: Part<'_>, rules: Rules) -> Suggest
     let (Some(first), Some(last)) = (left.number(), right.number()) else {
         return Suggestion::None;
     };
+    if rules.field == PatternField::Year {
+        return Suggestion::None;
+    }
     let (least, greatest) = rules.bounds();
-    let least = match rules.field {
-        PatternField::Year => return Suggestion::None,
-        PatternField::Weekday => 1,
-        _ => least,
-    };
+    let is_weekday = rules.field == PatternField::Weekday;
     Suggestion::Around {
         first,
         greatest,
-        least,
+        least: if is_weekday { 1 } else { least },
         last,
         names: names_of(left, right, rules),
     }
@@ -327,7 +355,7 @@ fn fault_of_step<'t>(
     rules: Rules,
 ) -> Option<(Piece<'t>, Expected)> {
     if let Some(second) = sides.right.split('/') {
-        return Some((second.sign, Expected::OneSign { sign: '/' }));
+        return Some((second.sign, one_sign('/')));
     }
     if sides.right.is_empty() {
         return Some((sides.sign, rules.step()));
@@ -335,7 +363,10 @@ fn fault_of_step<'t>(
     let step = match sides.right.number() {
         Some(step) if step > 0 => step,
         _ => {
-            let expected = fault_of_modifier(sides.right, rules).unwrap_or(rules.step());
+            let expected = match fault_of_modifier(sides.right, rules) {
+                Some(day) => Expected::Day(day),
+                None => rules.step(),
+            };
             return Some((sides.right.written, expected));
         }
     };
@@ -345,32 +376,32 @@ fn fault_of_step<'t>(
         None => fault_of_start(part, sides.left, step, rules),
     };
     match found {
-        Some((place, Expected::Ascending { .. })) => Some((
+        Some((place, Expected::Value(ExpectedValue::Ascending { .. }))) => Some((
             place,
-            Expected::Ascending {
+            Expected::Value(ExpectedValue::Ascending {
                 suggestion: Suggestion::None,
-            },
+            }),
         )),
         Some(found) => Some(found),
         None if fault_of_nth(part).is_some() => None,
         None => Some((
             sides.right.written,
-            expected_of_long_step(part, sides.left, rules),
+            Expected::Step(expected_of_long_step(part, sides.left, rules)),
         )),
     }
 }
 
 /// What to write in place of a step that reaches no second value.
-fn expected_of_long_step(part: Part<'_>, left: Part<'_>, rules: Rules) -> Expected {
+fn expected_of_long_step(part: Part<'_>, left: Part<'_>, rules: Rules) -> ExpectedStep {
     if part.read.contains('#') {
-        return Expected::ShorterStep;
+        return ExpectedStep::Shorter;
     }
     let (least, _) = rules.bounds();
     let start = match left.split('-') {
         Some(range) => range.left.number(),
         None => left.number(),
     };
-    Expected::FirstAlone {
+    ExpectedStep::FirstAlone {
         first: start.unwrap_or(least),
     }
 }
@@ -396,14 +427,18 @@ fn fault_of_start<'t>(
         return None;
     }
     if is_too_long(number, step, rules) {
-        return Some((part.written, expected_of_long_step(part, left, rules)));
+        let expected = expected_of_long_step(part, left, rules);
+        return Some((part.written, Expected::Step(expected)));
     }
     let suggestion = if part.read.contains('#') {
         Suggestion::None
     } else {
         suggestion_of_step(number, step, rules)
     };
-    Some((part.written, Expected::RangeToStep { suggestion }))
+    Some((
+        part.written,
+        Expected::Step(ExpectedStep::RangeBefore { suggestion }),
+    ))
 }
 
 /// Whether a step from a number, or from nothing, goes beyond the greatest number of 16 bits after its last value.
@@ -430,7 +465,7 @@ fn suggestion_of_step(number: Option<u16>, step: u16, rules: Rules) -> Suggestio
 fn fault_of_nearest<'t>(sides: Sides<'t>, rules: Rules) -> Option<(Piece<'t>, Expected)> {
     if sides.left.is_empty() {
         if sides.right.read == "L" {
-            return Some((sides.sign, Expected::LastNearest));
+            return Some((sides.sign, Expected::Day(ExpectedDay::LastNearest)));
         }
         return Some((sides.sign, rules.number_beside('W', false)));
     }
@@ -438,10 +473,10 @@ fn fault_of_nearest<'t>(sides: Sides<'t>, rules: Rules) -> Option<(Piece<'t>, Ex
 }
 
 /// What an `L` in the days may have been meant for.
-fn fault_of_last(part: Part<'_>) -> Expected {
+fn fault_of_last(part: Part<'_>) -> ExpectedDay {
     match part.read.strip_suffix('L') {
-        Some("0" | "1" | "2" | "3" | "4" | "5" | "6" | "7") => Expected::LastOfWeekday,
-        _ => Expected::LastAlone,
+        Some("0" | "1" | "2" | "3" | "4" | "5" | "6" | "7") => ExpectedDay::LastOfWeekday,
+        _ => ExpectedDay::LastAlone,
     }
 }
 
@@ -451,7 +486,7 @@ fn fault_of_number<'t>(
     rules: Rules,
 ) -> Option<(Piece<'t>, Expected)> {
     if rules.field == PatternField::DayOfMonth && part.read.contains('L') {
-        return Some((part.written, fault_of_last(part)));
+        return Some((part.written, Expected::Day(fault_of_last(part))));
     }
     if head.is_empty() {
         let sides = part.split('#')?;
@@ -459,7 +494,7 @@ fn fault_of_number<'t>(
     }
     if let Some(last) = head.split('L').or(head.split('l')) {
         if last.left.is_empty() || !last.right.is_empty() {
-            return Some((part.written, Expected::LastAfterWeekday));
+            return Some((part.written, Expected::Day(ExpectedDay::LastAfterWeekday)));
         }
         return fault_of_value(last.left, rules);
     }

@@ -41,9 +41,7 @@ impl CronParser {
             return Err(Stop::OutOfMemory);
         };
         read_fields(&mut pattern, fields, self.sloppy_ranges)?;
-        let Ok(()) = settle_weekdays(&mut pattern.days_of_week, self.alternative_weekdays) else {
-            unreachable!()
-        };
+        settle_weekdays(&mut pattern.days_of_week, self.alternative_weekdays);
         pattern.set_flags(is_star(fields.days), is_star(fields.days_of_week), and);
         Ok(pattern)
     }

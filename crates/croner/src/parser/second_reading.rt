@@ -9,7 +9,10 @@ ghost use Rattle.croner.specs.Private.parser.Places.{AreItsWords, HasCauseInSigh
 ghost use Rattle.croner.specs.Private.parser.Steps.{refusal_of};
 
 use super::characters::{from_illegal, without_sign};
-use super::fault::{Expected, Hint, PatternField};
+use super::fault::{
+    Expected, ExpectedCharacter, ExpectedNickname, ExpectedStep, ExpectedText, FieldsHint, Hint,
+    PatternField, SignHint, TextHint,
+};
 use super::part::{Part, Rules, fault_of_part};
 use super::pieces::{Finding, Piece};
 use super::place::{counted_word, place_of_word};
@@ -50,7 +53,7 @@ pub fn find_fault(
     ensures { IfOk result (λ found. IsFound parser.now text.now (refusal_of cause) found.start found.end) }
 {
     match cause {
-        Cause::Empty => Ok(finding_of_whole(text, Expected::Pattern)),
+        Cause::Empty => Ok(finding_of_whole(text, Expected::Text(ExpectedText::Pattern))),
         Cause::Invalid => wrong_count(alloc, parser, text, words),
         Cause::Illegal(field) => illegal_character(alloc, parser, text, words, field),
         Cause::Component(field, part) => refused_part(alloc, parser, text, words, field, part),
@@ -72,14 +75,14 @@ fn wrong_count(
 {
     let most = parser.most_fields();
     if most == 0 {
-        return Ok(finding_of_whole(text, Expected::Settings));
+        return Ok(finding_of_whole(text, Expected::Text(ExpectedText::Settings)));
     }
-    let expected = Expected::Count {
+    let expected = Expected::Text(ExpectedText::Count {
         found: words.len(),
         seconds: parser.seconds,
         year: parser.year,
         hint: hint_of_count(alloc, parser, text, words, most)?,
-    };
+    });
     if has_byte(text, b'@') {
         return Ok(finding_of_whole(text, nickname_fault(words, expected, parser)));
     }
@@ -114,22 +117,21 @@ fn hint_of_few(
 ) -> Result<Hint, AllocError> {
     if let [word] = words {
         if let Some(nickname) = nickname_of(word.text, parser.year) {
-            return Ok(Hint::AtSign { nickname });
+            return Ok(Hint::Text(TextHint::AtSign { nickname }));
         }
     }
     if words.iter().any(|word| is_time_of_day(word.text)) {
-        return Ok(Hint::TimeOfDay);
+        return Ok(Hint::Fields(FieldsHint::TimeOfDay));
     }
-    let hint = hint_of_no_pattern(words);
-    if hint != Hint::None {
-        return Ok(hint);
+    if let Some(hint) = hint_of_no_pattern(words) {
+        return Ok(Hint::Text(hint));
     }
     if is_interval(words) {
         let pattern = each_fifth_minute(parser);
-        return Ok(Hint::Interval { pattern });
+        return Ok(Hint::Text(TextHint::Interval { pattern }));
     }
     if words.len() >= LEAST_FIELDS && is_pattern(alloc, parser, text)? {
-        return Ok(hint_of_wanted(parser, words));
+        return Ok(Hint::Fields(hint_of_wanted(parser, words)));
     }
     Ok(Hint::None)
 }
@@ -162,14 +164,14 @@ fn is_pattern(alloc: Global, parser: &CronParser, text: &str) -> Result<bool, Al
 }
 
 /// Which field that the settings require a pattern lacks.
-fn hint_of_wanted(parser: &CronParser, words: &[Piece<'_>]) -> Hint {
+fn hint_of_wanted(parser: &CronParser, words: &[Piece<'_>]) -> FieldsHint {
     if parser.year != Year::Required {
-        return Hint::SecondInFront;
+        return FieldsHint::SecondInFront;
     }
     if words.len() == LEAST_FIELDS {
-        return Hint::SecondAndYear;
+        return FieldsHint::SecondAndYear;
     }
-    Hint::YearAtEnd
+    FieldsHint::YearAtEnd
 }
 
 /// The nickname that a word would be with `@` before it, if the settings accept one.
@@ -209,15 +211,15 @@ fn is_time_of_day(word: &str) -> bool {
 }
 
 /// What a text that is no pattern may be: a setting, or a comment.
-fn hint_of_no_pattern(words: &[Piece<'_>]) -> Hint {
+fn hint_of_no_pattern(words: &[Piece<'_>]) -> Option<TextHint> {
     let first = text_at(words, 0);
     if first.starts_with('#') {
-        return Hint::Comment;
+        return Some(TextHint::Comment);
     }
     if first.contains('=') {
-        return Hint::Setting;
+        return Some(TextHint::Setting);
     }
-    Hint::None
+    None
 }
 
 /// Why there may be too many fields: a space beside a sign, a second or a year that the settings don't have, or a command
@@ -229,33 +231,32 @@ fn hint_of_many(
     words: &[Piece<'_>],
     most: usize,
 ) -> Result<Hint, AllocError> {
-    let hint = hint_of_no_pattern(words);
-    if hint != Hint::None {
-        return Ok(hint);
+    if let Some(hint) = hint_of_no_pattern(words) {
+        return Ok(Hint::Text(hint));
     }
     for word in words.iter().take(most) {
         if word.text.ends_with(',') || word.text.starts_with(',') {
-            return Ok(Hint::SpaceAfterComma);
+            return Ok(Hint::Fields(FieldsHint::SpaceAfterComma));
         }
         if word.text == "-" || word.text == "/" {
-            return Ok(Hint::SpaceInPart);
+            return Ok(Hint::Fields(FieldsHint::SpaceInPart));
         }
     }
     if is_pattern(alloc, parser, text)? {
-        return Ok(hint_of_unwanted(parser, words));
+        return Ok(Hint::Fields(hint_of_unwanted(parser, words)));
     }
     hint_of_command(alloc, words, most)
 }
 
 /// Which field a pattern has that the settings don't.
-fn hint_of_unwanted(parser: &CronParser, words: &[Piece<'_>]) -> Hint {
+fn hint_of_unwanted(parser: &CronParser, words: &[Piece<'_>]) -> FieldsHint {
     if parser.seconds != Seconds::Disallowed {
-        return Hint::NoYear;
+        return FieldsHint::NoYear;
     }
     if words.len() == WORDS_WITH_SECONDS {
-        return Hint::NoSecond;
+        return FieldsHint::NoSecond;
     }
-    Hint::NoSecondAndYear
+    FieldsHint::NoSecondAndYear
 }
 
 /// Where a command may begin: at the first word after five that no field accepts.
@@ -265,9 +266,9 @@ fn hint_of_command(alloc: Global, words: &[Piece<'_>], most: usize) -> Result<Hi
             continue;
         }
         if place < most {
-            return Ok(Hint::CommandAfter { fields: place });
+            return Ok(Hint::Text(TextHint::CommandAfter { fields: place }));
         }
-        return Ok(Hint::Command);
+        return Ok(Hint::Text(TextHint::Command));
     }
     Ok(Hint::None)
 }
@@ -282,30 +283,36 @@ fn is_of_days(alloc: Global, word: Piece<'_>) -> Result<bool, AllocError> {
 
 /// Why a text with `@` is refused for its count.
 fn nickname_fault(words: &[Piece<'_>], count: Expected, parser: &CronParser) -> Expected {
-    let found = words.len();
-    let first = match words {
-        [first, ..] if first.text.starts_with('@') => first.text,
-        _ => return count,
-    };
+    match words {
+        [first, ..] if first.text.starts_with('@') => {
+            Expected::Nickname(expected_of_nickname(first.text, words.len(), parser))
+        }
+        _ => count,
+    }
+}
+
+/// What was expected of so many words, the first of which begins with `@`.
+fn expected_of_nickname(first: &str, found: usize, parser: &CronParser) -> ExpectedNickname {
     if first.eq_ignore_ascii_case("@every") {
         let pattern = each_fifth_minute(parser);
-        return Expected::NicknameOfInterval { pattern };
+        return ExpectedNickname::Interval { pattern };
     }
+    let is_reboot = first.eq_ignore_ascii_case("@reboot");
     if parser.year == Year::Required {
         return match nickname_in_fields(first) {
-            Some(pattern) if found == 1 => Expected::NicknameInFields { pattern },
-            Some(_) => Expected::NicknameWithoutYear,
-            None if first.eq_ignore_ascii_case("@reboot") => Expected::NicknameOfTimeWithoutYear,
-            None => Expected::NoNicknameWithoutYear,
+            Some(pattern) if found == 1 => ExpectedNickname::InFields { pattern },
+            Some(_) => ExpectedNickname::WithoutYear,
+            None if is_reboot => ExpectedNickname::OfTimeWithoutYear,
+            None => ExpectedNickname::KnownWithoutYear,
         };
     }
     if found == 1 && first.eq_ignore_ascii_case("@midnight") {
-        return Expected::NicknameOfMidnight;
+        return ExpectedNickname::Daily;
     }
-    if first.eq_ignore_ascii_case("@reboot") {
-        return Expected::NicknameOfTime;
+    if is_reboot {
+        return ExpectedNickname::OfTime;
     }
-    Expected::Nickname
+    ExpectedNickname::Known
 }
 
 /// The pattern for every fifth minute, with the fields that the settings require.
@@ -390,19 +397,19 @@ fn at_sign(start: usize) -> Finding
     Finding {
         start,
         end: start + 1,
-        expected: Expected::NoAtSign,
+        expected: Expected::Nickname(ExpectedNickname::NoAtSign),
     }
 }
 
 /// The hint that a text has another line, in place of none, or of one on a command.
 fn hint_of_lines(text: &str, hint: Hint) -> Hint {
-    if hint != Hint::None && hint != Hint::Command {
+    if hint != Hint::None && hint != Hint::Text(TextHint::Command) {
         return hint;
     }
     match text.trim_end().split_once('\n') {
-        Some((line, _)) if !line.trim_start().is_empty() => Hint::LineFeed {
+        Some((line, _)) if !line.trim_start().is_empty() => Hint::Text(TextHint::LineFeed {
             character: line.chars().count().saturating_add(1),
-        },
+        }),
         _ => hint,
     }
 }
@@ -410,10 +417,10 @@ fn hint_of_lines(text: &str, hint: Hint) -> Hint {
 /// Why such a character may be where it is not legal.
 fn hint_of_character(c: char) -> Hint {
     match c {
-        'L' | 'W' | '?' | '#' | '+' => Hint::SignElsewhere { sign: c },
-        ':' => Hint::TimeOfDay,
-        '"' | '\'' | '`' => Hint::Quotes,
-        '\u{2010}'..='\u{2015}' | '\u{2212}' => Hint::Dash,
+        'L' | 'W' | '?' | '#' | '+' => Hint::Sign(SignHint::Elsewhere { sign: c }),
+        ':' => Hint::Fields(FieldsHint::TimeOfDay),
+        '"' | '\'' | '`' => Hint::Text(TextHint::Quotes),
+        '\u{2010}'..='\u{2015}' | '\u{2212}' => Hint::Sign(SignHint::Dash),
         _ => Hint::None,
     }
 }
@@ -441,17 +448,17 @@ impl Illegal {
         quartz: bool,
     ) -> Expected {
         if let Some(step) = self.step_of(words, place, field) {
-            return Expected::StepAlone { step };
+            return Expected::Step(ExpectedStep::WithoutUnit { step });
         }
         match self.name {
             Some(name) if self.c.is_ascii_uppercase() && is_name_of(name, field) => {
-                Expected::Name { name }
+                Expected::Character(ExpectedCharacter::Name { name })
             }
-            _ => Expected::Legal {
+            _ => Expected::Character(ExpectedCharacter::Legal {
                 field,
                 quartz,
                 hint: hint_of_lines(text, self.hint(place, words, field)),
-            },
+            }),
         }
     }
 
@@ -459,33 +466,32 @@ impl Illegal {
     fn hint(self, place: usize, words: &[Piece<'_>], field: PatternField) -> Hint {
         let hint = hint_of_character(self.c);
         if place >= LEAST_FIELDS && !self.is_sign_of_value(hint) {
-            return Hint::Command;
+            return Hint::Text(TextHint::Command);
         }
         if place == 0 {
-            let no_pattern = hint_of_no_pattern(words);
-            if no_pattern != Hint::None {
-                return no_pattern;
+            if let Some(no_pattern) = hint_of_no_pattern(words) {
+                return Hint::Text(no_pattern);
             }
         }
-        match hint {
-            Hint::Quotes | Hint::Dash => hint,
-            Hint::SignElsewhere { sign: '?' } if text_at(words, place) == "?" => {
-                Hint::StarForQuestion
-            }
-            _ if self.is_in_word => self.hint_of_name(field),
-            _ => hint,
+        if hint == Hint::Text(TextHint::Quotes) || hint == Hint::Sign(SignHint::Dash) {
+            return hint;
         }
+        if self.c == '?' && text_at(words, place) == "?" {
+            return Hint::Sign(SignHint::StarForQuestion);
+        }
+        if self.is_in_word {
+            return self.hint_of_name(field);
+        }
+        hint
     }
 
     /// Whether no command begins here: it is a `?`, or a sign or a dash after a value.
     fn is_sign_of_value(self, hint: Hint) -> bool {
-        match hint {
-            Hint::SignElsewhere { .. } => {
-                self.c == '?' || self.is_after_value && !self.is_in_word
-            }
-            Hint::Dash => self.is_after_value,
-            _ => false,
+        if hint == Hint::Sign(SignHint::Dash) {
+            return self.is_after_value;
         }
+        let is_sign = matches!(hint, Hint::Sign(SignHint::Elsewhere { .. }));
+        self.c == '?' || is_sign && self.is_after_value && !self.is_in_word
     }
 
     /// The step before a unit of the field, as 5 in `*/5m` in the minutes.
@@ -495,7 +501,7 @@ impl Illegal {
             PatternField::Minutes => 'M',
             PatternField::Hours => 'H',
             PatternField::DayOfMonth => 'D',
-            _ => return None,
+            PatternField::Month | PatternField::Weekday | PatternField::Year => return None,
         };
         let word = words.get(place)?;
         let at = self.start.saturating_sub(word.start);
@@ -515,9 +521,9 @@ impl Illegal {
         match self.name {
             Some(name) if self.c.is_ascii_uppercase() && !is_name_of(name, field) => {
                 if is_name_of(name, PatternField::Month) {
-                    Hint::MonthElsewhere
+                    Hint::Sign(SignHint::MonthElsewhere)
                 } else {
-                    Hint::WeekdayElsewhere
+                    Hint::Sign(SignHint::WeekdayElsewhere)
                 }
             }
             _ => Hint::None,
@@ -542,10 +548,10 @@ fn is_last(c: char, rest: &str) -> bool {
 /// Whether a name is one of the field's values.
 fn is_name_of(name: &str, field: PatternField) -> bool {
     let is_weekday = matches!(name, "SUN" | "MON" | "TUE" | "WED" | "THU" | "FRI" | "SAT");
-    match field {
-        PatternField::Month => !is_weekday,
-        PatternField::Weekday => is_weekday,
-        _ => false,
+    if is_weekday {
+        field == PatternField::Weekday
+    } else {
+        field == PatternField::Month
     }
 }
 
@@ -702,10 +708,10 @@ fn hint_of(year: Year, field: PatternField, words: &[Piece<'_>], place: usize) -
     let word = text_at(words, place);
     let after = text_at(words, place.saturating_add(1));
     if before.ends_with(',') || word.ends_with(',') || word.starts_with(',') {
-        return Hint::SpaceAfterComma;
+        return Hint::Fields(FieldsHint::SpaceAfterComma);
     }
     if goes_on(before, word) || goes_on(word, after) {
-        return Hint::SpaceInPart;
+        return Hint::Fields(FieldsHint::SpaceInPart);
     }
     if words.len() != WORDS_WITH_SECONDS {
         return Hint::None;
@@ -714,9 +720,9 @@ fn hint_of(year: Year, field: PatternField, words: &[Piece<'_>], place: usize) -
         return Hint::None;
     }
     if year == Year::Disallowed {
-        return Hint::SixFieldsWithoutYear;
+        return Hint::Fields(FieldsHint::SixWithoutYear);
     }
-    Hint::SixFields
+    Hint::Fields(FieldsHint::Six)
 }
 
 fn text_at<'t>(words: &[Piece<'t>], place: usize) -> &'t str {

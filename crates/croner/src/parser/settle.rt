@@ -1,7 +1,7 @@
 //! The third step: the signs `?` and `+` of the day fields are settled. Also what is settled after the last step:
 //! Sunday as 7.
 
-ghost use Rattle.std.specs.Prelude.{◌≡◌, ℕ, ◌||◌, ◌==◌, true, false, fold, IfOk, IsOk, MatchOption, string_bytes, if◌then◌else◌};
+ghost use Rattle.std.specs.Prelude.{◌≡◌, ℕ, ◌||◌, ◌==◌, true, false, fold, IfOk, MatchOption, string_bytes, if◌then◌else◌};
 ghost use Rattle.croner_base.specs.Field.{has_all};
 ghost use Rattle.croner.specs.parser.Grammar.{has_plus, is_star, settled, starred, sunday_moved, weekday_modifiers, without_plus};
 ghost use Rattle.croner.specs.Private.parser.Steps.{IsSettled, TakesSunday};
@@ -14,7 +14,6 @@ use croner_base::component::{
     ALL_BIT, CronComponent, LAST_BIT, NTH_1ST_BIT, NTH_2ND_BIT, NTH_3RD_BIT, NTH_4TH_BIT,
     NTH_5TH_BIT,
 };
-use croner_base::errors::CronError;
 use std::alloc::{AllocError, Global};
 
 /// The value of Sunday as 7.
@@ -123,33 +122,37 @@ pub fn is_star(text: &str) -> bool
 }
 
 /// Moves weekday 7 to 0, for every modifier; in Quartz mode it stays.
-pub fn settle_weekdays(weekdays: &mut CronComponent, quartz: bool) -> Result<(), CronError>
+pub fn settle_weekdays(weekdays: &mut CronComponent, quartz: bool)
     requires { quartz ≡ false → (bit : ℕ) → has_all 127 bit ≡ true → TakesSunday weekdays.old.shape bit }
-    ensures ok { IsOk result }
-    ensures moved { weekdays.new ≡ (if quartz then weekdays.old else fold sunday_moved weekdays.old weekday_modifiers) }
+    ensures { weekdays.new ≡ (if quartz then weekdays.old else fold sunday_moved weekdays.old weekday_modifiers) }
 {
     if quartz {
-        return Ok(());
+        return;
     }
-    move_sunday(weekdays, ALL_BIT)?;
-    move_sunday(weekdays, NTH_1ST_BIT)?;
-    move_sunday(weekdays, NTH_2ND_BIT)?;
-    move_sunday(weekdays, NTH_3RD_BIT)?;
-    move_sunday(weekdays, NTH_4TH_BIT)?;
-    move_sunday(weekdays, NTH_5TH_BIT)?;
-    move_sunday(weekdays, LAST_BIT)
+    move_sunday(weekdays, ALL_BIT);
+    move_sunday(weekdays, NTH_1ST_BIT);
+    move_sunday(weekdays, NTH_2ND_BIT);
+    move_sunday(weekdays, NTH_3RD_BIT);
+    move_sunday(weekdays, NTH_4TH_BIT);
+    move_sunday(weekdays, NTH_5TH_BIT);
+    move_sunday(weekdays, LAST_BIT);
 }
 
 /// Moves weekday 7 with one modifier to 0.
-fn move_sunday(weekdays: &mut CronComponent, bit: u8) -> Result<(), CronError>
+fn move_sunday(weekdays: &mut CronComponent, bit: u8)
     requires { TakesSunday weekdays.old.shape bit }
-    ensures ok { IsOk result }
     ensures moved { weekdays.new ≡ sunday_moved weekdays.old bit }
     ensures shape { weekdays.new.shape ≡ weekdays.old.shape }
 {
-    if weekdays.is_bit_set(SUNDAY_AS_SEVEN, bit)? {
-        weekdays.unset_bit(SUNDAY_AS_SEVEN, bit)?;
-        weekdays.set_bit(0, bit)?;
+    let Ok(has_seven) = weekdays.is_bit_set(SUNDAY_AS_SEVEN, bit) else {
+        unreachable!()
+    };
+    if has_seven {
+        let Ok(()) = weekdays.unset_bit(SUNDAY_AS_SEVEN, bit) else {
+            unreachable!()
+        };
+        let Ok(()) = weekdays.set_bit(0, bit) else {
+            unreachable!()
+        };
     }
-    Ok(())
 }

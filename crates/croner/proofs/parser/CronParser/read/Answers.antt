@@ -43,7 +43,7 @@ returns c =
     let h = c.in_ok-read_fields.ensures s (sym (ap (λ v. v.sloppy) c.self.view_is)) c.args.text.now start in
     let old : Meaning = meaning_of c.read_fields.new.pattern in
     let weekdays : c.settle_weekdays.new.weekdays ≡ settled_weekdays s old.days_of_week =
-    c.settle_weekdays.ensures.moved ∙ ap (λ b. cond b old.days_of_week (fold sunday_moved old.days_of_week weekday_modifiers)) mode in
+    c.settle_weekdays.ensures ∙ ap (λ b. cond b old.days_of_week (fold sunday_moved old.days_of_week weekday_modifiers)) mode in
     let read = finished s c.args.text.now t c.args.and old (meaning_of c.set_flags.new.self) c.settle_weekdays.new.weekdays h.0 h.1 weekdays
     (c.set_flags.ensures ∙ rw (c.is_star.ensures, c.is_star-2.ensures) refl) in
     subst (λ b. cond b (of_legal s c.args.text.now t c.args.and) (Err (Illegal (illegal_field t))) ≡ Ok (meaning_of c.set_flags.new.self)) legal read

@@ -44,7 +44,7 @@ returns-clause-asked g c =
     let puts = changed_puts c.args.id (λ k. get nat_cmp self.jobs k) (λ k. get nat_cmp c.renew.new.jobs k) w there (job_with_next c.in_ok-next.next) c.renew.ensures.jobs in
     let held = held_of g.T.CronDateTime.moment self in
     let held' : Held _ = record { jobs = λ k. option_map (standing_of g.T.CronDateTime.moment) (get nat_cmp c.renew.new.jobs k); count = btree_map_len c.renew.new.jobs; next_id = self.next_id } in
-    subst (AsksAgain c.args.id held held') (sym (ap is_asked c.again-again.ensures ∙ asked_by (is_some (stop_of c.in_ok-next.next))))
+    subst (AsksAgain c.args.id held held') (sym (ap is_asked c.again_result-again.ensures ∙ asked_by (is_some (stop_of c.in_ok-next.next))))
     (of_standing g.T.CronDateTime.moment (λ s. IsSome s.stop × MovesTo held c.args.id s.position.instant held')
     (get nat_cmp self.jobs c.args.id) w there (
       stopped,
@@ -66,7 +66,7 @@ returns-clause-told g c =
     let puts = changed_puts c.args.id (λ k. get nat_cmp self.jobs k) (λ k. get nat_cmp c.renew.new.jobs k) w there (job_with_next c.in_ok-next.next) c.renew.ensures.jobs in
     let held = held_of g.T.CronDateTime.moment self in
     let held' : Held _ = record { jobs = λ k. option_map (standing_of g.T.CronDateTime.moment) (get nat_cmp c.renew.new.jobs k); count = btree_map_len c.renew.new.jobs; next_id = self.next_id } in
-    subst (AgainTellsStop c.args.id held') (sym c.again-again.ensures)
+    subst (AgainTellsStop c.args.id held') (sym c.again_result-again.ensures)
     (tells_by held' c.args.id (is_some (stop_of c.in_ok-next.next))
     (put_tells g.J.Recurring.runs g.T.CronDateTime.moment c.args.id (λ k. get nat_cmp self.jobs k) (λ k. get nat_cmp c.renew.new.jobs k) (has_turn self.turns)
     self.listed self.fits w there other fit puts held held' (λ k. refl) (λ k. refl) c.renew.ensures.count refl))

@@ -4,7 +4,7 @@ use Rattle.std.specs.Ordering.{nat_cmp}
 use Rattle.croner_scheduler.specs.Private.Turns.{has_turn}
 use Rattle.croner_scheduler.specs.Views.{held_of}
 use Rattle.croner_scheduler.proofs.Nearest.{nearest, awaits_first}
-use Rattle.croner_scheduler.proofs.scheduler.Scheduler.nearest.Goals as goal
+use Rattle.croner_scheduler.proofs.scheduler.Scheduler.nearest_turn.Goals as goal
 
 pub returns-clause-nearest : goal.returns-clause-nearest
 returns-clause-nearest g c =
