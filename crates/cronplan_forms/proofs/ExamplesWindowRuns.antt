@@ -1,5 +1,5 @@
 -- Worked rows of windows that come again from day to day, computed from the definitions.
-use Rattle.std.proofs.Common.{◌≡◌, ◌≤◌, ◌<◌, ◌+◌, ℕ, pos, true, false, [], ◌∷◌, ◌++◌, arith, refl}
+use Rattle.std.proofs.Common.{◌≡◌, ◌≤◌, ◌<◌, ◌+◌, ◌*◌, ℕ, pos, true, false, [], ◌∷◌, ◌++◌, arith, refl}
 use Rattle.std.specs.Fmt.{digits}
 use Rattle.std.specs.Prelude.{codes}
 use Rattle.std.specs.declared.cmp.Ordering.TheVariants.{Less}
@@ -80,6 +80,7 @@ unfolding wall_second day_number year_start days_since_zero days_of_months
 after_a_weekend = refl
 
 perhaps_longer : comes_again monday open_tuesday ≡ false
+unfolding wall_second day_number year_start days_since_zero days_of_months
 perhaps_longer = refl
 
 in_summer : comes_again monday summer_tuesday ≡ false
