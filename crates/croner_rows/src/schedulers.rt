@@ -3,7 +3,7 @@
 use crate::{Caller, Fault, FlakyJob, Result, items, number, number_at, parts, shown, word};
 use croner::Clocked;
 use croner_scheduler::{
-    AddError, Again, Due, Latest, NotAdded, Replaced, Scheduler, Skip, Stop, Waiting,
+    AddError, Again, Due, Latest, NotAdded, Refusal, Replaced, Scheduler, Skip, Stop, Waiting,
 };
 use serde_json::Value;
 use std::alloc::{AllocError, Global};
@@ -236,7 +236,7 @@ fn shown_latest(alloc: Global, latest: Latest) -> Result<Value> {
         Latest::NothingDue => shown::text(alloc, "NothingDue"),
         Latest::NoJob => shown::text(alloc, "NoJob"),
         Latest::NotHeld => shown::text(alloc, "NotHeld"),
-        Latest::Refused(error) => shown::refusal_value(alloc, &error),
+        Latest::Refused(refusal) => shown::text(alloc, refusal_name(refusal)),
     }
 }
 
@@ -277,9 +277,16 @@ fn what_comes_next<T: Clocked>(alloc: Global, waiting: &Waiting<FlakyJob, T>) ->
     }
 }
 
+fn refusal_name(refusal: Refusal) -> &'static str {
+    match refusal {
+        Refusal::InvalidDate => "InvalidDate",
+        Refusal::InvalidTime => "InvalidTime",
+    }
+}
+
 fn shown_stop(alloc: Global, stop: &Stop) -> Result<Value> {
     match stop {
-        Stop::Refused(error) => shown::refusal_value(alloc, error),
+        Stop::Refused(refusal) => shown::text(alloc, refusal_name(*refusal)),
         Stop::NotLater => shown::text(alloc, "NotLater"),
     }
 }

@@ -4,6 +4,7 @@ use Rattle.croner_base.specs.Zone.{Zone, Moment, at_instant}
 use Rattle.croner_base.specs.declared.errors.CronError.TheVariants.{InvalidTime, TimeSearchLimitExceeded}
 use Rattle.croner_scheduler.specs.declared.latest.Last.TheVariants.{Later, Known, Refused}
 use Rattle.croner_scheduler.specs.declared.waiting.Next.TheVariants.{Run, Over}
+use Rattle.croner_scheduler.specs.declared.waiting.Refusal.TheVariants as refusals
 use Rattle.croner_scheduler.specs.Private.Latest.{due_run, last_of_run, last_of_refusal}
 
 module _ (z : Zone) where
@@ -38,5 +39,5 @@ module _ (z : Zone) where
 the_limit : last_of_refusal {T = Moment} TimeSearchLimitExceeded ≡ Ok Known
 the_limit = refl
 
-a_refusal : last_of_refusal {T = Moment} InvalidTime ≡ Ok (Refused InvalidTime)
+a_refusal : last_of_refusal {T = Moment} InvalidTime ≡ Ok (Refused refusals.InvalidTime)
 a_refusal = refl

@@ -1,6 +1,6 @@
 -- Which of some jobs are stopped, computed.
 use Rattle.std.proofs.Common.{◌≡◌, refl, [], ◌∷◌}
-use Rattle.croner_base.specs.declared.errors.CronError.TheVariants.{InvalidTime}
+use Rattle.croner_scheduler.specs.declared.waiting.Refusal.TheVariants.{InvalidTime}
 use Rattle.croner_scheduler.specs.Stops.{stops_in}
 use Rattle.croner_scheduler.specs.declared.waiting.Next.{Next}
 use Rattle.croner_scheduler.specs.declared.waiting.Next.TheVariants.{Run, Over, Stopped}

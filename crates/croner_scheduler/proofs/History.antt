@@ -342,7 +342,7 @@ module _ {J : Type 0} (runs : J → Zone → ℤ → Type 0) where
       by : (o : Option Stop) → IfSome o (StopsAt s'.position) → o ≡ None
       by None why = refl
       by (Some stops.NotLater) why = absurd (why can.1.starts)
-      by (Some (stops.Refused e)) why = absurd (why.0 can.1)
+      by (Some (stops.Refused refusal)) why = absurd (why can.1)
 
   pub never_keeps_back : (h : Held J) → NeverKeepsBack runs h
   never_keeps_back h calls h' makes k s there stay calm =

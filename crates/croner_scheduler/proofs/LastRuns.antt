@@ -27,7 +27,7 @@ use Rattle.croner_scheduler.specs.Private.Latest.{due_run, last_of_run, last_of_
 use Rattle.croner_scheduler.specs.Private.Steps.{is_next_at, is_awaited_at}
 use Rattle.croner_scheduler.specs.Standing.{Standing, Held}
 use Rattle.croner_scheduler.proofs.Nearest.{seen_before, same_second, is_itself}
-use Rattle.croner_scheduler.proofs.NextRuns.{stops_by}
+use Rattle.croner_scheduler.proofs.NextRuns.{not_promised}
 
 module _ {T : Type 0} (runs : Zone → ℤ → Type 0) (moment : T → Moment) (next until : T) where
   found_by : (found : T) (b d : Bool) → int_lt (moment next).instant (moment found).instant ≡ b → int_le (moment found).instant (moment until).instant ≡ d
@@ -49,13 +49,13 @@ module _ {T : Type 0} (runs : Zone → ℤ → Type 0) (moment : T → Moment) (
 
   pub last_refused : (lack : Bool) (e : CronError) → IsRunRefused lack Backward runs (moment until) e
       → IfOk (last_of_refusal {T = T} e) (FitsLast runs moment next (moment until))
-  last_refused lack EmptyPattern is = stops_by Backward runs (moment until) lack _ is (λ e. cc) (λ e. cc)
-  last_refused lack InvalidDate is = stops_by Backward runs (moment until) lack _ is (λ e. cc) (λ e. cc)
-  last_refused lack InvalidTime is = stops_by Backward runs (moment until) lack _ is (λ e. cc) (λ e. cc)
+  last_refused lack EmptyPattern is = not_promised Backward runs (moment until) lack _ is (λ e. cc) (λ e. cc)
+  last_refused lack InvalidDate is = not_promised Backward runs (moment until) lack _ is (λ e. cc) (λ e. cc)
+  last_refused lack InvalidTime is = not_promised Backward runs (moment until) lack _ is (λ e. cc) (λ e. cc)
   last_refused lack TimeSearchLimitExceeded is = λ calm j counted span. absurd (is.limit calm refl j span counted)
-  last_refused lack (InvalidPattern m) is = stops_by Backward runs (moment until) lack _ is (λ e. cc) (λ e. cc)
-  last_refused lack (IllegalCharacters m) is = stops_by Backward runs (moment until) lack _ is (λ e. cc) (λ e. cc)
-  last_refused lack (ComponentError m) is = stops_by Backward runs (moment until) lack _ is (λ e. cc) (λ e. cc)
+  last_refused lack (InvalidPattern m) is = not_promised Backward runs (moment until) lack _ is (λ e. cc) (λ e. cc)
+  last_refused lack (IllegalCharacters m) is = not_promised Backward runs (moment until) lack _ is (λ e. cc) (λ e. cc)
+  last_refused lack (ComponentError m) is = not_promised Backward runs (moment until) lack _ is (λ e. cc) (λ e. cc)
   last_refused lack OutOfMemory is = tt
 
 -- ---- what is given

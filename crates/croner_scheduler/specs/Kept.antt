@@ -1,6 +1,7 @@
 -- What is kept of a job: the run that comes next, that none comes in the searched years, or why it is stopped. Source: this crate's
 -- documentation.
-use Rattle.std.specs.Prelude.{◌≡◌, ◌⊎◌, ℤ, ◌<ℤ◌, Option, None, Some, option_map}
+use Rattle.std.specs.Prelude.{◌≡◌, ℤ, ◌<ℤ◌, Option, None, Some, option_map}
+use Rattle.croner_base.specs.declared.errors.CronError.{CronError}
 use Rattle.croner_base.specs.declared.errors.CronError.TheVariants.{InvalidDate, InvalidTime}
 use Rattle.croner_base.specs.declared.time.Direction.TheVariants.{Forward}
 use Rattle.croner_base.specs.Zone.{Zone, Moment}
@@ -9,6 +10,8 @@ use Rattle.croner.specs.search.Limit.{NoneInSpanWhere}
 use Rattle.croner.specs.search.Premises.{IsSearchable, StartsCalm}
 use Rattle.croner_scheduler.specs.declared.waiting.Next.{Next}
 use Rattle.croner_scheduler.specs.declared.waiting.Next.TheVariants.{Run, Over, Stopped}
+use Rattle.croner_scheduler.specs.declared.waiting.Refusal.{Refusal}
+use Rattle.croner_scheduler.specs.declared.waiting.Refusal.TheVariants as refusals
 use Rattle.croner_scheduler.specs.declared.waiting.Stop.{Stop}
 use Rattle.croner_scheduler.specs.declared.waiting.Stop.TheVariants.{Refused, NotLater}
 use Rattle.croner_scheduler.specs.declared.waiting.Waiting.{Waiting}
@@ -33,11 +36,16 @@ standing_of moment w = record {
   next = option_map (λ t. (moment t).instant) (run_of w.next);
 }
 
--- the stops that can be at a moment: a run that isn't later only where the moment isn't a whole second in a calm zone; a refusal, by InvalidDate or
--- InvalidTime, only where no search is promised from there
+-- the error of a refusal
+abbrev pub error_of : Refusal → CronError
+error_of refusals.InvalidDate = InvalidDate
+error_of refusals.InvalidTime = InvalidTime
+
+-- the stops that can be at a moment: a run that isn't later only where the moment isn't a whole second in a calm zone; a refusal only where no
+-- search is promised from there
 abbrev pub StopsAt : Moment → Stop → Type 0
 StopsAt m NotLater = ¬ (StartsCalm m)
-StopsAt m (Refused e) = ¬ (IsSearchable m) × ((e ≡ InvalidDate) ⊎ (e ≡ InvalidTime))
+StopsAt m (Refused refusal) = ¬ (IsSearchable m)
 
 -- what comes next from a moment, of what has these runs: a later whole second of the zone, in a calm zone the nearest run; none, and in a calm zone
 -- none is in the span; or a stop

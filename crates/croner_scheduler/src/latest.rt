@@ -2,6 +2,7 @@
 ghost use Rattle.std.specs.Prelude.{◌≡◌, IfOk};
 ghost use Rattle.croner_scheduler.specs.Private.Latest.{last_of_run, last_of_refusal, FitsLast};
 
+use crate::waiting::{Refusal, refusal_of};
 use croner::errors::CronError;
 use croner::{Clocked, Recurring};
 use std::alloc::AllocError;
@@ -22,8 +23,8 @@ pub enum Latest {
     NoJob,
     /// The job's zone doesn't hold the second `now`.
     NotHeld,
-    /// The search backward from `now` was refused by its backend, with `InvalidDate` or `InvalidTime`.
-    Refused(CronError),
+    /// The search backward from `now` was refused by its backend.
+    Refused(Refusal),
 }
 
 // What a search backward finds as the last run of a job.
@@ -34,7 +35,7 @@ pub(crate) enum Last<T> {
     // It is the next run.
     Known,
     // The backend refused the search.
-    Refused(CronError),
+    Refused(Refusal),
 }
 
 // The last run of a job up to a moment, where its next run lies no later.
@@ -70,6 +71,6 @@ fn last_of_refusal<T>(refusal: CronError) -> Result<Last<T>, AllocError>
     match refusal {
         CronError::TimeSearchLimitExceeded => Ok(Last::Known),
         CronError::OutOfMemory => Err(AllocError),
-        refused => Ok(Last::Refused(refused)),
+        error => Ok(Last::Refused(refusal_of(error))),
     }
 }

@@ -20,7 +20,7 @@ pub use scheduler::Scheduler;
 pub use skip::Skip;
 pub use stops::Stops;
 pub use turns::Due;
-pub use waiting::{Stop, Waiting};
+pub use waiting::{Refusal, Stop, Waiting};
 
 /// A scheduler of jobs in few words, for those who have many: a `Cron` takes 872 bytes in it and 1,264 more on the heap, a
 /// [`CompactCron`] 64.

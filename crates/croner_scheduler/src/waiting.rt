@@ -2,7 +2,7 @@
 ghost use Rattle.std.specs.Prelude.{◌≡◌, is_some, option_map, IfOk, IfErr};
 ghost use Rattle.croner_scheduler.specs.Kept.{standing_of, stop_of, run_of, FitsNext, Fits};
 ghost use Rattle.croner_scheduler.specs.Private.Latest.{due_run};
-ghost use Rattle.croner_scheduler.specs.Private.Steps.{next_of_run, next_of_refusal, IsSecondBefore, FitsAfter, job_after_run, job_at_position, job_standing_at, is_next_after, job_with_next, again_of};
+ghost use Rattle.croner_scheduler.specs.Private.Steps.{next_of_run, next_of_refusal, IsSecondBefore, FitsAfter, job_after_run, job_at_position, job_standing_at, is_next_after, job_with_next, again_of, refusal_of};
 
 use crate::Again;
 use croner::errors::CronError;
@@ -10,11 +10,20 @@ use croner::{Clocked, Recurring};
 use std::alloc::AllocError;
 use std::mem;
 
+/// How a backend refused a search: it doesn't hold a moment that the search needs. [`CronError`] is made of it by `From`.
+#[derive(Debug, Clone, Copy)]
+pub enum Refusal {
+    /// As [`CronError::InvalidDate`].
+    InvalidDate,
+    /// As [`CronError::InvalidTime`].
+    InvalidTime,
+}
+
 /// Why a job is stopped. That happens only where its zone isn't calm, or the backend doesn't hold what a search from its position needs.
-#[derive(Debug, Drop)]
+#[derive(Debug, Clone, Copy)]
 pub enum Stop {
-    /// Its backend refused the search after its position, with `InvalidDate` or `InvalidTime`.
-    Refused(CronError),
+    /// Its backend refused the search after its position.
+    Refused(Refusal),
     /// The run that the search found isn't later than the position. That never happens in a calm zone.
     NotLater,
 }
@@ -246,6 +255,38 @@ fn next_of_run<T: Clocked>(position: &T, found: T) -> Next<T>
     }
 }
 
+/// The error of the same name.
+impl From<Refusal> for CronError {
+    ghost use Rattle.std.specs.Prelude.{◌≡◌};
+    ghost use Rattle.croner_scheduler.specs.Kept.{error_of};
+
+    ghost from_gives = { λ refusal e. e ≡ error_of refusal };
+
+    fn from(refusal: Refusal) -> CronError {
+        match refusal {
+            Refusal::InvalidDate => CronError::InvalidDate,
+            Refusal::InvalidTime => CronError::InvalidTime,
+        }
+    }
+}
+
+// How a search was refused whose error is neither the limit nor lack of memory. A search has no errors but these and `InvalidDate` and
+// `InvalidTime`.
+pub(crate) fn refusal_of(error: CronError) -> Refusal
+    ensures { result ≡ refusal_of error }
+{
+    match error {
+        CronError::InvalidDate => Refusal::InvalidDate,
+        CronError::InvalidTime
+        | CronError::EmptyPattern
+        | CronError::TimeSearchLimitExceeded
+        | CronError::InvalidPattern(_)
+        | CronError::IllegalCharacters(_)
+        | CronError::ComponentError(_)
+        | CronError::OutOfMemory => Refusal::InvalidTime,
+    }
+}
+
 // What a refusal is.
 fn next_of_refusal<T>(refusal: CronError) -> Result<Next<T>, AllocError>
     ensures { result ≡ next_of_refusal refusal }
@@ -253,6 +294,6 @@ fn next_of_refusal<T>(refusal: CronError) -> Result<Next<T>, AllocError>
     match refusal {
         CronError::TimeSearchLimitExceeded => Ok(Next::Over),
         CronError::OutOfMemory => Err(AllocError),
-        refused => Ok(Next::Stopped(Stop::Refused(refused))),
+        error => Ok(Next::Stopped(Stop::Refused(refusal_of(error)))),
     }
 }

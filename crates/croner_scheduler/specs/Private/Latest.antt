@@ -18,6 +18,7 @@ use Rattle.croner_scheduler.specs.declared.waiting.Next.TheVariants.{Run}
 use Rattle.croner_scheduler.specs.declared.waiting.Stop.TheVariants as stops
 use Rattle.croner_scheduler.specs.Calls.{IsSame, MovesTo}
 use Rattle.croner_scheduler.specs.Kept.{StopsAt}
+use Rattle.croner_scheduler.specs.Private.Steps.{refusal_of}
 use Rattle.croner_scheduler.specs.Standing.{Standing, Held}
 
 -- the next run, if it lies no later than now
@@ -34,7 +35,7 @@ last_of_run moment next until found =
 abbrev pub last_of_refusal : {T : Type 0} → CronError → Result (Last T) AllocError
 last_of_refusal TimeSearchLimitExceeded = Ok Known
 last_of_refusal OutOfMemory = Err alloc_error
-last_of_refusal other = Ok (Refused other)
+last_of_refusal other = Ok (Refused (refusal_of other))
 
 -- the last run up to a moment, of what has these runs and that run next: a later one up to there, in a calm zone the last that counts; or the
 -- next run, and in a calm zone none that counts in the span is later; or a refusal, as of a search that stops a job

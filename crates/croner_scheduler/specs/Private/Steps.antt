@@ -4,12 +4,14 @@ use Rattle.std.specs.BTreeMap.{is_at}
 use Rattle.std.specs.Ordering.{nat_cmp, int_eq}
 use Rattle.std.specs.declared.alloc.AllocError.{AllocError}
 use Rattle.croner_base.specs.declared.errors.CronError.{CronError}
-use Rattle.croner_base.specs.declared.errors.CronError.TheVariants.{TimeSearchLimitExceeded, OutOfMemory}
+use Rattle.croner_base.specs.declared.errors.CronError.TheVariants.{InvalidDate, TimeSearchLimitExceeded, OutOfMemory}
 use Rattle.croner_base.specs.Zone.{Zone, Moment}
 use Rattle.croner_scheduler.specs.declared.again.Again.{Again}
 use Rattle.croner_scheduler.specs.declared.again.Again.TheVariants.{GoesOn, StillStopped}
 use Rattle.croner_scheduler.specs.declared.waiting.Next.{Next}
 use Rattle.croner_scheduler.specs.declared.waiting.Next.TheVariants.{Run, Over, Stopped}
+use Rattle.croner_scheduler.specs.declared.waiting.Refusal.{Refusal}
+use Rattle.croner_scheduler.specs.declared.waiting.Refusal.TheVariants as refusals
 use Rattle.croner_scheduler.specs.declared.waiting.Stop.TheVariants.{Refused, NotLater}
 use Rattle.croner_scheduler.specs.declared.waiting.Waiting.{Waiting}
 use Rattle.croner_scheduler.specs.Calls.{second_before, HasNoneBefore}
@@ -19,11 +21,16 @@ use Rattle.croner_scheduler.specs.Kept.{FitsNext}
 abbrev pub next_of_run : {T : Type 0} → (T → Moment) → T → T → Next T
 next_of_run moment position found = if int_lt (moment position).instant (moment found).instant then Run found else Stopped NotLater
 
+-- how a search was refused whose error is neither the limit nor lack of memory
+abbrev pub refusal_of : CronError → Refusal
+refusal_of InvalidDate = refusals.InvalidDate
+refusal_of other = refusals.InvalidTime
+
 -- what a refusal is: the limit says that the job is over, any other but lack of memory stops it
 abbrev pub next_of_refusal : {T : Type 0} → CronError → Result (Next T) AllocError
 next_of_refusal TimeSearchLimitExceeded = Ok Over
 next_of_refusal OutOfMemory = Err alloc_error
-next_of_refusal other = Ok (Stopped (Refused other))
+next_of_refusal other = Ok (Stopped (Refused (refusal_of other)))
 
 -- the value names the second before that of a moment; or there is none
 abbrev pub IsSecondBefore : {T : Type 0} → (T → Moment) → Moment → Option T → Type 0
