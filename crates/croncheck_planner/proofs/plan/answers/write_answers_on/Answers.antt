@@ -1,4 +1,4 @@
-use Rattle.std.proofs.Common.{ℕ, List, string_bytes, subst, refl, search, rules}
+use Rattle.std.proofs.Common.{ℕ, List, string_bytes, subst, refl}
 use Rattle.croncheck_output.specs.Output.{written_of, WritesApart}
 use Rattle.croncheck_output.proofs.OkResults.{if_ok}
 use Rattle.croncheck_planner.proofs.plan.answers.write_answers_on.Goals as goal
