@@ -148,7 +148,7 @@ pub seen-step : (runs : List Run) (i : ℕ) (run : Run) (before : Option ℤ) (s
     → second ≡ run.time.second → Seen runs (i + 1) (Some second) shorter_one
 seen-step runs i run before shortest distance shorter_one second h is seen distance_is shorter_is second_is =
     let found : shorter_one ≡ shorter_of shortest (distance_of before (get_or runs i run)) =
-    shorter_is ∙ ap (shorter shortest) (distance_is ∙ ap (distance_of before) is) in
+    shorter_is ∙ ap (shorter_of shortest) (distance_is ∙ ap (distance_of before) is) in
     let at : second ≡ (get_or runs i run).time.second = second_is ∙ ap (λ (x : Run). x.time.second) is in
     subst (λ (x : ℤ). Seen runs (i + 1) (Some x) shorter_one) (sym at)
     (subst (λ (x : Option ℕ). Seen runs (i + 1) (Some (get_or runs i run).time.second) x) (sym found) (seen-more runs i run before shortest h seen))
