@@ -80,6 +80,7 @@ unfolding wall_second day_number year_start days_since_zero days_of_months
 after_a_weekend = refl
 
 perhaps_longer : comes_again monday open_tuesday ≡ false
+unfolding wall_second day_number year_start days_since_zero days_of_months
 perhaps_longer = refl
 
 in_summer : comes_again monday summer_tuesday ≡ false

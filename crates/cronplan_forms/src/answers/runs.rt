@@ -197,7 +197,10 @@ fn push_first(
 fn push_days(text: &mut String, first: ShownWindow, last: ShownWindow) -> Result<(), AllocError>
     ensures { OnOk result (string_bytes text.new ≡ string_bytes text.old ++ days_line first last) }
 {
-    let (from, to) = (ShownDate { time: first.from }, ShownDate { time: last.from });
+    let (from, to) = (
+        ShownDate { time: first.from },
+        ShownDate { time: last.from },
+    );
     let times = DayTimes { window: first };
     write!(text, "  {from} to {to}, each day {times}\n")
 }
@@ -233,7 +236,10 @@ impl fmt::Display for DayTimes {
     ghost output = { λ t. Some (day_times_text t.window) };
 
     fn fmt<W: fmt::Write>(&self, f: &mut fmt::Formatter<W>) -> fmt::Result {
-        let (from, until) = (self.window.from.civil.time(), self.window.until.civil.time());
+        let (from, until) = (
+            self.window.from.civil.time(),
+            self.window.until.civil.time(),
+        );
         let day = day_text(&self.window);
         let ahead = self.window.until.ahead;
         let length = Lasting {
@@ -247,7 +253,11 @@ impl fmt::Display for DayTimes {
 fn day_text(window: &ShownWindow) -> &'static str
     ensures { result.now ≡ day_text window.now }
 {
-    if ends_on_date(window) { "" } else { "next day " }
+    if ends_on_date(window) {
+        ""
+    } else {
+        "next day "
+    }
 }
 
 /// Puts behind a text a line for each of the first of these, with what stands in front of them; nothing where there is none. The only error is
