@@ -1,12 +1,12 @@
 -- Runs, one after the other.
-use Rattle.std.proofs.Common.{◌≡◌, ◌∙◌, ◌+◌, ◌<◌, ◌≤◌, ℕ, suc, Bool, true, false, List, [], ◌∷◌, ◌++◌, length, get_or, take, drop, ap, sym, refl, arith, if◌then◌else◌}
+use Rattle.std.proofs.Common.{◌≡◌, ◌∙◌, ◌+◌, ◌<◌, ℕ, suc, Bool, true, false, List, [], ◌∷◌, ◌++◌, length, get_or, take, drop, ap, sym, refl, arith, if◌then◌else◌}
 use Rattle.std.specs.List.{flat_map}
 use Rattle.std.specs.Prelude.{map}
 use Rattle.std.proofs.lemmas.List.{append_assoc, at_drop_more, map_push, take-map}
 use Rattle.cronplan_forms.specs.declared.answers.quiet.ShownWindow.{ShownWindow}
 use Rattle.cronplan_forms.specs.declared.answers.runs.WindowRun.{WindowRun}
 use Rattle.cronplan_forms.specs.WindowRuns.{before_runs, comes_again, longest_text, most_longest, run_line, some_longest, window_runs}
-use Rattle.cronplan_forms.specs.Private.Steps.{goes_on, run_steps, steps_after}
+use Rattle.cronplan_forms.specs.Private.Steps.{run_steps, steps_after}
 
 -- its windows
 abbrev pub windows_of : WindowRun → List ShownWindow
@@ -26,7 +26,7 @@ joined : (s t : ShownWindow) (ts : List ShownWindow) (n : ℕ) (b : Bool) → wi
 joined s t ts n true is = refl
 joined s t ts n false is = ap (λ (runs : List (List ShownWindow)). (s ∷ []) ∷ runs) (sym is)
 
--- the first run, and those behind it
+-- the first run, and those after it
 cut_at : (s : ShownWindow) (ss : List ShownWindow) → window_runs (s ∷ ss) ≡ (s ∷ take (steps_after s ss) ss) ∷ window_runs (drop (steps_after s ss) ss)
 cut_at s [] = refl
 cut_at s (t ∷ ts) = ap (before_runs s) (cut_at t ts) ∙ joined s t ts (steps_after t ts) (comes_again s t) (cut_at t ts)

@@ -1,5 +1,5 @@
 -- Windows that come again from day to day, in one line. Source: this crate's documentation of `quiet_text`.
-use Rattle.std.specs.Prelude.{◌≡◌, ◌==◌, ◌&&◌, ◌||◌, ℕ, ℤ, pos, ◌+ℤ◌, not, Bool, List, [], ◌∷◌, ◌++◌, codes, length, ◌-◌, slice_get, Option, Some, None, if◌then◌else◌}
+use Rattle.std.specs.Prelude.{◌==◌, ◌&&◌, ◌||◌, ℕ, ℤ, pos, ◌+ℤ◌, not, Bool, List, [], ◌∷◌, ◌++◌, codes, length, ◌-◌, slice_get, Option, Some, None, if◌then◌else◌}
 use Rattle.std.specs.List.{flat_map}
 use Rattle.std.specs.List.Sorted.{IsPermutation, IsSorted}
 use Rattle.std.specs.Ordering.{int_cmp, int_eq, nat_cmp, ordering_then}
@@ -102,7 +102,7 @@ unfoldable pub days_line : ShownWindow → ShownWindow → List ℕ
 days_line s last =
     codes "  " ++ (shown_date_text s.from ++ (codes " to " ++ (shown_date_text last.from ++ (codes ", each day " ++ (day_times_text s ++ codes "\n")))))
 
--- a window as a line, or with it those behind it up to the last one
+-- a window as a line, or it and those after it up to the last one
 abbrev pub line_to : ShownWindow → Option ShownWindow → List ℕ
 line_to s None = window_line s
 line_to s (Some last) = days_line s last

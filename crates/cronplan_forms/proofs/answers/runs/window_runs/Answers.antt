@@ -1,4 +1,4 @@
-use Rattle.std.proofs.Common.{arith, rules, ◌<◌, length}
+use Rattle.std.proofs.Common.{rules}
 use Rattle.cronplan_forms.proofs.RunSteps.{run_more}
 use Rattle.cronplan_forms.proofs.answers.runs.window_runs.Goals as goal
 
