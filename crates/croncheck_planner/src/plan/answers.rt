@@ -23,11 +23,11 @@ use std::io::{ErrorKind, Write};
 const SECONDS_AROUND: i64 = 3 * SECONDS_PER_DAY as i64;
 
 /// Writes what a plan of jobs answers, of which this was found: whose its starts are, what it leaves out, and the answers.
-pub(crate) fn write_answers<W: Write>(
-    terms: &Terms<'_, '_>,
+pub(crate) fn write_answers<'p, W: Write>(
+    terms: &'p Terms<'p, 'p>,
     front: &str,
-    jobs: &[Planned],
-    found: &Found,
+    jobs: &'p [Planned],
+    found: &'p Found,
     questions: Questions,
     output: &mut Output<W>,
 ) -> io::Result<()>

@@ -17,7 +17,7 @@ returns g c =
     let begun = written_of g.W.Write.contents c.write_apart.new.self in
     let between = written_of g.W.Write.contents c.write_starts.new.output in
     let text : List ℕ = string_bytes c.in_ok-text.text in
-    let listed = c.listed-starts.ensures in
+    let listed = c.listed_starts-starts.ensures in
     let is_empty : c.is_empty-is_empty.result ≡ (length (starts_listed s.listing found) == 0) =
     c.is_empty-is_empty.ensures ∙ ap (λ (starts : List JobStart). length starts == 0) listed in
     if_ok c.write_apart-2.result
