@@ -1,5 +1,6 @@
 mod ExamplesPlan
 mod MomentStarts
+mod OtherClocks
 mod PageLines
 mod PlanClocks
 mod ToldLines

@@ -1,9 +1,8 @@
 -- What a plan answers, as it is written. Source: docs/CRONTAB.md ("A plan").
-use Rattle.std.specs.Prelude.{◌≡◌, ◌==◌, ◌*◌, ◌⊎◌, ℕ, ℤ, pos, ◌+ℤ◌, ◌-ℤ◌, ◌≤ℤ◌, false, List, [], ◌++◌, codes, length, map, Option, Some, None, string_bytes}
+use Rattle.std.specs.Prelude.{◌≡◌, ◌==◌, ◌⊎◌, ℕ, ℤ, ◌≤ℤ◌, false, List, [], ◌++◌, codes, length, map, Option, Some, None, string_bytes}
 use Rattle.jiff.specs.declared.tz.timezone.TimeZone.{TimeZone}
 use Rattle.jiff_tz.specs.declared.timezone.TimeZone.{TimeZone as PlainZone}
 use Rattle.jiff.specs.ZoneView.{plain_zone}
-use Rattle.croner_base.specs.Calendar.{day_seconds}
 use Rattle.croner_base.specs.TableZone.{table_zone}
 use Rattle.croner_base.specs.ZoneTable.{IsCalmWindow, IsNoTable}
 use Rattle.croner_base.specs.ZonedZone.{zone_reads}
@@ -75,14 +74,29 @@ pub record IsViewOf (s : Settings) (jobs : List Planned) (found : Found) (v : Vi
   pub frequent : v.frequent.now ≡ found.frequent.items
   pub is_cut : v.is_cut ≡ is_cut found
 
--- the same on the clock of another zone; what starts too often isn't named again
-pub record IsOtherView (table : ClockTable) (name : List ℕ) (jobs : List Job) (plan : Plan) (v : View) : Type 0 where
-  pub plan : IsOnClock (table_zone table) plan v.plan.now
-  pub table : v.table.now ≡ table
-  pub zone : v.zone.now ≡ name
+-- the answers on the clock of the zone that is shown
+pub record AreOwnAnswers (s : Settings) (jobs : List Planned) (found : Found) (asked : Questions) (text : List ℕ) : Type 0 where
+  pub view : View
+  pub is_view : IsViewOf s jobs found view
+  pub answers : IsAnswers view asked text
+
+-- a plan on the clock of a table; what starts too often isn't named again
+pub record IsOtherView (table : ClockTable) (jobs : List Job) (plan : Plan) (v : View) : Type 0 where
+  pub plan_is : v.plan.now ≡ plan
+  pub table_is : v.table.now ≡ table
   pub jobs_are : v.jobs.now ≡ jobs
-  pub frequent : v.frequent.now ≡ []
-  pub is_cut : v.is_cut ≡ false
+  pub none_frequent : v.frequent.now ≡ []
+  pub not_cut : v.is_cut ≡ false
+
+-- the answers on the clock of a table
+pub record AreAnswersOn (table : ClockTable) (jobs : List Planned) (plan : Plan) (asked : Questions) (text : List ℕ) : Type 0 where
+  pub told : List Job
+  pub shown : Plan
+  pub view : View
+  pub told_is : jobs_told told ≡ jobs_planned jobs
+  pub on_clock : IsOnClock (table_zone table) plan shown
+  pub is_view : IsOtherView table told shown view
+  pub answers : IsAnswers view asked text
 
 -- what stands above answers on another clock, and in place of them where that isn't followed
 unfoldable pub other_head : List ℕ → List ℕ
@@ -92,54 +106,41 @@ unfoldable pub unfollowed_text : List ℕ → List ℕ
 unfollowed_text name = codes "the clock of " ++ (name ++ codes " isn't followed in these days\n")
 
 -- the answers were written on the clock of a table
-pub record WritesAnswersOn (table : ClockTable) (name : List ℕ) (jobs : List Job) (plan : Plan) (asked : Questions) (old new : Written) : Type 0 where
+pub record WritesAnswersOn (table : ClockTable) (name : List ℕ) (jobs : List Planned) (plan : Plan) (asked : Questions) (old new : Written) : Type 0 where
   pub begun : Written
-  pub view : View
   pub text : List ℕ
   pub head : WritesApart (other_head name) old begun
-  pub is_view : IsOtherView table name jobs plan view
-  pub answers : IsAnswers view asked text
+  pub answers : AreAnswersOn table jobs plan asked text
   pub written : WritesApart text begun new
 
--- the window of a plan on another clock: three days more at each side
-abbrev pub first_around : Span → ℤ
-first_around span = span.first -ℤ pos (3 * day_seconds)
-
-abbrev pub last_around : Span → ℤ
-last_around span = span.end +ℤ pos (3 * day_seconds)
-
--- the clock of a zone there
-pub record IsClockAround (z : PlainZone) (span : Span) (table : ClockTable) : Type 0 where
-  pub reads : (i : ℤ) → first_around span ≤ℤ i → i ≤ℤ last_around span → (table_zone table).reads i ≡ zone_reads z i
+-- the clock of a zone in a span, up to its end
+abbrev pub IsClockIn : PlainZone → Span → ClockTable → Type 0
+IsClockIn z span table = (i : ℤ) → span.first ≤ℤ i → i ≤ℤ span.end → (table_zone table).reads i ≡ zone_reads z i
 
 -- or why there is none: it isn't calm there, or memory is lacking
-abbrev pub IsNoClockAround : PlainZone → Span → CronError → Type 0
-IsNoClockAround z span e = IsNoTable z (first_around span) (last_around span) e
+abbrev pub IsNoClockIn : PlainZone → Span → CronError → Type 0
+IsNoClockIn z span e = IsNoTable z span.first span.end e
 
 -- the answers were written on the clock of a zone, or that it isn't followed there
-abbrev pub WritesOnZone : PlainZone → List ℕ → List Job → Plan → Questions → Written → Written → Type 0
+abbrev pub WritesOnZone : PlainZone → List ℕ → List Planned → Plan → Questions → Written → Written → Type 0
 WritesOnZone z name jobs plan asked old new =
-    ((table : ClockTable) × IsClockAround z plan.span table × WritesAnswersOn table name jobs plan asked old new)
-    ⊎ (¬ (IsCalmWindow z (first_around plan.span) (last_around plan.span)) × WritesApart (unfollowed_text name) old new)
+    ((table : ClockTable) × IsClockIn z plan.span table × WritesAnswersOn table name jobs plan asked old new)
+    ⊎ (¬ (IsCalmWindow z plan.span.first plan.span.end) × WritesApart (unfollowed_text name) old new)
 
-abbrev pub WritesOtherOf : Option TimeZone → List ℕ → List Job → Plan → Questions → Written → Written → Type 0
+abbrev pub WritesOtherOf : Option TimeZone → List ℕ → List Planned → Plan → Questions → Written → Written → Type 0
 WritesOtherOf None name jobs plan asked old new = new ≡ old
 WritesOtherOf (Some zone) name jobs plan asked old new = WritesOnZone (plain_zone zone) name jobs plan asked old new
 
 -- the answers were written once more on the other zone's clock, if one is to be shown
-abbrev pub WritesOtherAnswers : Shared → List Job → Plan → Questions → Written → Written → Type 0
+abbrev pub WritesOtherAnswers : Shared → List Planned → Plan → Questions → Written → Written → Type 0
 WritesOtherAnswers shared jobs plan asked old new = WritesOtherOf shared.other_zone shared.other_name.now jobs plan asked old new
 
 -- the answers were written, in front of them whose starts these are, where there are any, and below them the answers on the other clock
 pub record WritesAnswers (s : Settings) (shared : Shared) (front : List ℕ) (jobs : List Planned) (found : Found) (asked : Questions) (old new : Written) : Type 0 where
   pub begun : Written
-  pub view : View
+  pub answered : Written
   pub text : List ℕ
   pub head : WritesApart (head_text front (length found.plan.starts.items == 0)) old begun
-  pub is_view : IsViewOf s jobs found view
-  pub answers : IsAnswers view asked text
-  pub answered : Written
-  pub told : List Job
+  pub answers : AreOwnAnswers s jobs found asked text
   pub written : WritesApart text begun answered
-  pub told_is : jobs_told told ≡ jobs_planned jobs
-  pub other : WritesOtherAnswers shared told found.plan asked answered new
+  pub other : WritesOtherAnswers shared jobs found.plan asked answered new

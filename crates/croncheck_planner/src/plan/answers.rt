@@ -2,7 +2,7 @@
 ghost use Rattle.std.specs.Prelude.{◌≡◌, List, IfErr, IfOk, OnOk, string_bytes};
 ghost use Rattle.jiff.specs.ZoneView.{plain_zone};
 ghost use Rattle.croncheck_output.specs.Output.{written_of, WritesApart};
-ghost use Rattle.croncheck_planner.specs.PlanAnswers.{WritesAnswers, WritesOtherAnswers, WritesAnswersOn, IsClockAround, IsNoClockAround, other_head, unfollowed_text, IsViewOf, job_planned, job_told, jobs_planned, jobs_told};
+ghost use Rattle.croncheck_planner.specs.PlanAnswers.{WritesAnswers, WritesOtherAnswers, WritesOnZone, WritesAnswersOn, AreAnswersOn, AreOwnAnswers, IsOtherView, IsClockIn, IsNoClockIn, other_head, unfollowed_text, IsViewOf, job_planned, job_told, jobs_planned, jobs_told};
 
 use crate::plan::Found;
 use crate::plan::list::head_text;
@@ -11,7 +11,6 @@ use croncheck_output::output::Output;
 use croncheck_reading::progress::Terms;
 use croner::errors::CronError;
 use croner::time::table::ClockTable;
-use croner_base::limits::SECONDS_PER_DAY;
 use cronplan::{Plan, Span};
 use cronplan_forms::{Job, Questions, View, answers_text};
 use jiff::tz::TimeZone;
@@ -19,84 +18,126 @@ use std::alloc::{AllocError, Global};
 use std::io;
 use std::io::{ErrorKind, Write};
 
-/// The clock of another zone is taken so many seconds before and after a plan: three days, so that its dates are whole there.
-const SECONDS_AROUND: i64 = 3 * SECONDS_PER_DAY as i64;
-
 /// Writes what a plan of jobs answers, of which this was found: whose its starts are, what it leaves out, and the answers.
-pub(crate) fn write_answers<'p, W: Write>(
-    terms: &'p Terms<'p, 'p>,
+pub(crate) fn write_answers<W: Write>(
+    terms: &Terms<'_, '_>,
     front: &str,
-    jobs: &'p [Planned],
-    found: &'p Found,
+    jobs: &[Planned],
+    found: &Found,
     questions: Questions,
     output: &mut Output<W>,
 ) -> io::Result<()>
     ensures { OnOk result (WritesAnswers terms.now.settings.now terms.now.shared.now front.now jobs.now found.now questions (written_of W.contents output.old) (written_of W.contents output.new)) }
 {
-    let told = jobs_of(terms.alloc, jobs)?;
-    let view = view_of(terms, terms.shared.zone_name, found, told.as_slice());
-    let text = answers_text(terms.alloc, view, questions)?;
+    let text = own_answers(terms, jobs, found, questions)?;
     let starts = found.plan.starts.as_slice();
     output.write_apart(head_text(front, starts.is_empty()))?;
     output.write_apart(text.as_str())?;
-    write_other_answers(terms, &found.plan, told.as_slice(), questions, output)
+    write_other_answers(terms, jobs, &found.plan, questions, output)
+}
+
+// The answers on the clock of the zone that is shown.
+fn own_answers(
+    terms: &Terms<'_, '_>,
+    jobs: &[Planned],
+    found: &Found,
+    questions: Questions,
+) -> Result<String, AllocError>
+    ensures { IfOk result (λ text. AreOwnAnswers terms.now.settings.now jobs.now found.now questions (string_bytes text)) }
+{
+    let told = jobs_of(terms.alloc, jobs)?;
+    let zone = terms.shared.zone.iana_name().unwrap_or("");
+    let view = view_of(terms, zone, found, told.as_slice());
+    answers_text(terms.alloc, view, questions)
 }
 
 // Writes the answers once more on the clock of the other zone, if one is to be shown.
 fn write_other_answers<W: Write>(
     terms: &Terms<'_, '_>,
+    jobs: &[Planned],
     plan: &Plan,
-    jobs: &[Job<'_>],
     questions: Questions,
     output: &mut Output<W>,
 ) -> io::Result<()>
     ensures { OnOk result (WritesOtherAnswers terms.now.shared.now jobs.now plan.now questions (written_of W.contents output.old) (written_of W.contents output.new)) }
 {
-    let Some(zone) = terms.shared.other_zone else {
-        return Ok(());
-    };
-    let name = terms.shared.other_name;
-    match clock_around(terms.alloc, &zone, plan.span) {
-        Ok(table) => write_answers_on(terms.alloc, &table, name, jobs, plan, questions, output),
-        Err(CronError::OutOfMemory) => Err(io::Error::from(ErrorKind::OutOfMemory)),
-        Err(_) => write_unfollowed(terms.alloc, name, output),
+    match &terms.shared.other_zone {
+        Some(zone) => write_answers_in(terms, zone, jobs, plan, questions, output),
+        None => Ok(()),
     }
 }
 
-// The clock of a zone in a span and the days before and after it, if it is calm there.
-fn clock_around(alloc: Global, zone: &TimeZone<'_>, span: Span) -> Result<ClockTable, CronError>
-    ensures table { IfOk result (IsClockAround (plain_zone zone.now) span) }
-    ensures err { IfErr result (IsNoClockAround (plain_zone zone.now) span) }
+fn write_answers_in<W: Write>(
+    terms: &Terms<'_, '_>,
+    zone: &TimeZone<'_>,
+    jobs: &[Planned],
+    plan: &Plan,
+    questions: Questions,
+    output: &mut Output<W>,
+) -> io::Result<()>
+    ensures { OnOk result (WritesOnZone (plain_zone zone.now) terms.now.shared.now.other_name.now jobs.now plan.now questions (written_of W.contents output.old) (written_of W.contents output.new)) }
 {
-    let first = span.first.saturating_sub(SECONDS_AROUND);
-    let last = span.end.saturating_add(SECONDS_AROUND);
-    ClockTable::of_zone(alloc, zone, first, last)
+    let name = terms.shared.other_name;
+    match clock_in(terms.alloc, zone, plan.span) {
+        Ok(table) => write_answers_on(terms.alloc, &table, name, jobs, plan, questions, output),
+        Err(CronError::InvalidTime) => write_unfollowed(terms.alloc, name, output),
+        Err(_) => Err(io::Error::from(ErrorKind::OutOfMemory)),
+    }
+}
+
+// The clock of a zone in a span, if it is calm there.
+#[tactic(auto, using(crate::proofs::OtherClocks::signed))]
+fn clock_in(alloc: Global, zone: &TimeZone<'_>, span: Span) -> Result<ClockTable, CronError>
+    ensures table { IfOk result (IsClockIn (plain_zone zone.now) span) }
+    ensures err { IfErr result (IsNoClockIn (plain_zone zone.now) span) }
+{
+    ClockTable::of_zone(alloc, zone, span.first, span.end)
 }
 
 fn write_answers_on<W: Write>(
     alloc: Global,
     table: &ClockTable,
     name: &str,
-    jobs: &[Job<'_>],
+    jobs: &[Planned],
     plan: &Plan,
     questions: Questions,
     output: &mut Output<W>,
 ) -> io::Result<()>
     ensures { OnOk result (WritesAnswersOn table.now name.now jobs.now plan.now questions (written_of W.contents output.old) (written_of W.contents output.new)) }
 {
-    let plan = plan.on_clock(alloc, table)?;
-    let view = View {
-        plan: &plan,
-        table,
-        zone: name,
-        jobs,
-        frequent: &[],
-        is_cut: false,
-    };
-    let text = answers_text(alloc, view, questions)?;
+    let text = answers_on(alloc, table, jobs, plan, questions)?;
     let head = other_head(alloc, name)?;
     output.write_apart(head.as_str())?;
     output.write_apart(text.as_str())
+}
+
+// The answers on the clock of a table. What starts too often isn't named again.
+fn answers_on(
+    alloc: Global,
+    table: &ClockTable,
+    jobs: &[Planned],
+    plan: &Plan,
+    questions: Questions,
+) -> Result<String, AllocError>
+    ensures { IfOk result (λ text. AreAnswersOn table.now jobs.now plan.now questions (string_bytes text)) }
+{
+    let told = jobs_of(alloc, jobs)?;
+    let shown = plan.on_clock(alloc, table)?;
+    let view = other_view(&shown, table, told.as_slice());
+    answers_text(alloc, view, questions)
+}
+
+fn other_view<'v>(plan: &'v Plan, table: &'v ClockTable, jobs: &'v [Job<'v>]) -> View<'v>
+    ensures view { IsOtherView table.now jobs.now plan.now result }
+{
+    View {
+        plan,
+        table,
+        zone: "",
+        jobs,
+        frequent: &[],
+        is_cut: false,
+    }
 }
 
 #[tactic(auto, unfolding(crate::specs::PlanAnswers::other_head))]

@@ -1,4 +1,4 @@
-use Rattle.std.proofs.Common.{ℕ, List, string_bytes, subst, refl}
+use Rattle.std.proofs.Common.{◌∙◌, ℕ, List, string_bytes, subst}
 use Rattle.croncheck_output.specs.Output.{written_of, WritesApart}
 use Rattle.croncheck_output.proofs.OkResults.{if_ok}
 use Rattle.croncheck_planner.proofs.plan.answers.write_answers_on.Goals as goal
@@ -11,10 +11,8 @@ returns g c =
     if_ok c.write_apart-2.result
     (λ writes. record {
       begun = begun;
-      view = c.view;
       text = string_bytes c.in_ok-text.text;
-      head = subst (λ (head : List ℕ). WritesApart head old begun) (c.as_str.ensures.value) c.in_ok-write_apart.ensures.written;
-      is_view = record { plan = c.in_ok-plan.ensures; table = refl; zone = refl; jobs_are = refl; frequent = refl; is_cut = refl };
+      head = subst (λ (head : List ℕ). WritesApart head old begun) (c.as_str.ensures.value ∙ c.in_ok-head.ensures) c.in_ok-write_apart.ensures.written;
       answers = c.in_ok-text.ensures;
       written = subst (λ (end : List ℕ). WritesApart end begun new) c.as_str-2.ensures.value writes;
     })

@@ -1,0 +1,20 @@
+-- The answers of a plan on a clock.
+use Rattle.std.proofs.Common.{◌≡◌, ◌⊎◌, inl, inr, arith, ℤ, Result, Ok, Err}
+use Rattle.std.specs.Prelude.{IfOk}
+use Rattle.std.proofs.lemmas.Int.{ints, to_z-of_z}
+use Rattle.croner_base.specs.ZoneTable.{IsCalmWindow, IsNoTable}
+use Rattle.croner_base.specs.declared.errors.CronError.{CronError}
+use Rattle.croner_base.specs.declared.errors.CronError.TheVariants.{InvalidTime, OutOfMemory}
+use Rattle.jiff_tz.specs.declared.timezone.TimeZone.{TimeZone}
+
+pub ruleset signed = (ints, to_z-of_z)
+
+-- what follows from a property of an answer holds of it
+pub each_ok : {T E : Type 0} (P Q : T → Type 0) (r : Result T E) → ((x : T) → P x → Q x) → IfOk r P → IfOk r Q
+each_ok P Q (Ok x) f h = f x h
+each_ok P Q (Err e) f h = tt
+
+-- where a time is refused, the window isn't calm
+pub not_calm : (z : TimeZone) (first last : ℤ) (e : CronError) → e ≡ InvalidTime → IsNoTable z first last e → IsCalmWindow z first last → ⊥
+not_calm z first last e is (inl h) = h.1
+not_calm z first last e is (inr h) = λ _. grind (arith, is, h.0)
