@@ -3,6 +3,7 @@
 ghost use Rattle.std.specs.Prelude.{◌≡◌, ℕ, List};
 ghost use Rattle.croner_base.specs.Field.{with_sloppy};
 ghost use Rattle.croner_pattern.specs.Meaning.{meaning_of};
+ghost use Rattle.croner.specs.parser.Grammar.{text_of_field};
 ghost use Rattle.croner.specs.Private.parser.Steps.{ReadsAll, ReadsField, Reads, start_meaning};
 ghost use Rattle.croner.specs.parser.Settings.{Settings};
 ghost use Rattle.croner.specs.Views.{texts_of};
@@ -50,14 +51,15 @@ impl CronParser {
 /// Reads the text of a field into it; a refusal names that field, and the part of its list at which reading stopped.
 fn read_field(
     component: &mut CronComponent,
-    text: &str,
+    fields: FieldTexts<'_>,
     sloppy: bool,
     field: PatternField,
 ) -> Result<(), Stop>
-    ensures { ReadsField (with_sloppy component.old sloppy).shape text.now (with_sloppy component.old sloppy) component.new field result }
+    ensures { ReadsField (with_sloppy component.old sloppy).shape (text_of_field field (texts_of fields.entry))
+        (with_sloppy component.old sloppy) component.new field result }
 {
     component.set_sloppy_ranges(sloppy);
-    match component.parse_parts(text) {
+    match component.parse_parts(fields.at(field)) {
         Ok(()) => Ok(()),
         Err(refused) => match refused.error {
             CronError::OutOfMemory => Err(Stop::OutOfMemory),
@@ -75,42 +77,13 @@ pub fn read_fields(
     ensures { (s : Settings) → s.sloppy ≡ sloppy → (text : List ℕ) → meaning_of pattern.old ≡ start_meaning s text
         → ReadsAll s text (texts_of fields.entry) (meaning_of pattern.new) result }
 {
-    read_field(
-        &mut pattern.seconds,
-        fields.seconds,
-        sloppy,
-        PatternField::Seconds,
-    )?;
-    read_field(
-        &mut pattern.minutes,
-        fields.minutes,
-        sloppy,
-        PatternField::Minutes,
-    )?;
-    read_field(
-        &mut pattern.hours,
-        fields.hours,
-        sloppy,
-        PatternField::Hours,
-    )?;
-    read_field(
-        &mut pattern.days,
-        fields.days,
-        sloppy,
-        PatternField::DayOfMonth,
-    )?;
-    read_field(
-        &mut pattern.months,
-        fields.months,
-        sloppy,
-        PatternField::Month,
-    )?;
-    read_field(
-        &mut pattern.days_of_week,
-        fields.days_of_week,
-        sloppy,
-        PatternField::Weekday,
-    )?;
-    read_field(&mut pattern.years, fields.years, sloppy, PatternField::Year)?;
+    read_field(&mut pattern.seconds, fields, sloppy, PatternField::Seconds)?;
+    read_field(&mut pattern.minutes, fields, sloppy, PatternField::Minutes)?;
+    read_field(&mut pattern.hours, fields, sloppy, PatternField::Hours)?;
+    read_field(&mut pattern.days, fields, sloppy, PatternField::DayOfMonth)?;
+    read_field(&mut pattern.months, fields, sloppy, PatternField::Month)?;
+    let weekdays = &mut pattern.days_of_week;
+    read_field(weekdays, fields, sloppy, PatternField::Weekday)?;
+    read_field(&mut pattern.years, fields, sloppy, PatternField::Year)?;
     Ok(())
 }
