@@ -13,7 +13,7 @@ invariant_of-result c =
     let p = c.args.self.now in
     let z : Zone = table_zone c.args.table.now in
     let same : IsPermutation (map (shown_on z) p.starts.items) c.sort_unstable.new.self.items =
-        subst (λ (xs : List JobStart). IsPermutation xs c.sort_unstable.new.self.items) (c.in_ok-starts.ensures ∙ ap (map (shown_on z)) c.as_slice.ensures.value) c.sort_unstable.ensures.permutation in
+    subst (λ (xs : List JobStart). IsPermutation xs c.sort_unstable.new.self.items) (c.in_ok-starts.ensures ∙ ap (map (shown_on z)) c.as_slice.ensures.value) c.sort_unstable.ensures.permutation in
     record {
       order = c.sort_unstable.ensures.sorted;
       within = shown_within z p.span.first p.starts.items c.sort_unstable.new.self.items same p.within;
