@@ -91,13 +91,38 @@ def excerpt(text, most=64):
 
 
 def quiet_lines(plan, least):
-    windows = plan.windows(least)
-    if not windows:
+    lines = window_lines(plan, least)
+    if not lines:
         return [f"no window of {length_text(least)} or longer in which nothing starts"]
-    found = [f"windows of {length_text(least)} or longer in which nothing starts:"]
-    for begin, end, length, is_open in windows:
-        found.append(f"  {time_text(plan, begin)} to {time_text(plan, end)}  {length_text(length)}" + (" or longer" if is_open else ""))
-    return found
+    return [f"windows of {length_text(least)} or longer in which nothing starts:"] + lines
+
+
+def window_lines(plan, least):
+    """A line for each window, but one alone for those that come again on the dates that follow each other."""
+    found, daily = [], {}
+    for begin, end, length, is_open in plan.windows(least):
+        wall, until, ahead = plan.wall(begin), plan.wall(end), plan.ahead(begin)
+        if is_open or plan.ahead(end) != ahead or until // DAY - wall // DAY > 1:
+            line = f"  {time_text(plan, begin)} to {time_text(plan, end)}  {length_text(length)}" + (" or longer" if is_open else "")
+            found.append((-length, wall % DAY, begin, line))
+        else:
+            daily.setdefault((length, wall % DAY, ahead), {})[wall // DAY] = (begin, end)
+    for (length, time, _), dates in daily.items():
+        firsts = [date for date in dates if date - 1 not in dates]
+        for first in firsts:
+            last = next(date for date in range(first, first + len(dates)) if date + 1 not in dates)
+            found.append((-length, time, dates[first][0], days_line(plan, dates[first], first, last)))
+    return [line for *_, line in sorted(found)]
+
+
+def days_line(plan, window, first, last):
+    begin, end = (time_text(plan, second) for second in window)
+    length = length_text(window[1] - window[0])
+    if first == last:
+        return f"  {begin} to {end}  {length}"
+    next_day = "" if plan.wall(window[1]) // DAY == first else "next day "
+    dates = " to ".join(f"{weekday(date)} {date_text(date)}" for date in (first, last))
+    return f"  {dates}, each day {begin.split()[2]} to {next_day}{' '.join(end.split()[2:])}  {length}"
 
 
 def busy_lines(plan, most):
@@ -133,7 +158,9 @@ def week_lines(plan, signs):
         told = f", {fullest[1]} at {clock_text(plan.wall(fullest[0]))}" if fullest else ""
         found.append(f"{date_name(date)}  {cells} {sum(filter(None, hours))}{told}")
     found.append("  ".join(f"{sign}={least}" for sign, least in zip(signs, STEPS)) + "  starts in an hour, or more")
-    return found + ["x: the clock skips the hour"] + [change_line(*change) for change in plan.changes()]
+    found += ["x: the clock skips the hour"] + [change_line(*change) for change in plan.changes()]
+    longest = window_lines(plan, HOUR)[:5]
+    return found + (["longest windows in which nothing starts:"] + longest if longest else [])
 
 
 def change_line(_, before, after, count):

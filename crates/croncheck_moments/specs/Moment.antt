@@ -195,18 +195,33 @@ start_from (moments.Date date) second = second -ℤ pos 1
 
 -- ---- the ends of weeks and months
 
--- the last second of the sixth date after the one that a zone's clock shows at a second
-pub record IsEndOfWeek (tz : TimeZone) (second last : ℤ) : Type 0 where
-  pub today : Date
-  pub date : Date
-  pub shown : ShowsDate tz today second
-  pub sixth : epoch_day date ≡ epoch_day today +ℤ pos 6
-  pub ends : IsLastOf tz date (Some last)
+-- the date that a zone's clock shows at a second: there is one where the second is held
+abbrev pub IsDateAt : TimeZone → ℤ → Option Date → Type 0
+IsDateAt tz second None = ¬ (IsHeldSecond second)
+IsDateAt tz second (Some date) = ShowsDate tz date second
 
--- the last second of the month of that date
-pub record IsEndOfMonth (tz : TimeZone) (second last : ℤ) : Type 0 where
-  pub today : Date
-  pub date : Date
-  pub shown : ShowsDate tz today second
-  pub last_day : IsYmd today.year (pos today.month) (pos (month_length today)) date
-  pub ends : IsLastOf tz date (Some last)
+-- the date so many days after one, up to the last one
+abbrev pub IsDaysAfter : Date → ℤ → Option Date → Type 0
+IsDaysAfter date days None = last_epoch_day <ℤ (epoch_day date +ℤ days)
+IsDaysAfter date days (Some later) = epoch_day later ≡ epoch_day date +ℤ days
+
+-- the last second of the sixth date after a date
+abbrev pub IsEndOfSixth : TimeZone → Date → Option ℤ → Type 0
+IsEndOfSixth tz today last =
+    ((last ≡ None) × (last_epoch_day <ℤ (epoch_day today +ℤ pos 6)))
+    ⊎ ((date : Date) × (epoch_day date ≡ epoch_day today +ℤ pos 6) × IsLastOf tz date last)
+
+-- of the one that the clock shows at a second
+abbrev pub IsEndOfWeek : TimeZone → ℤ → Option ℤ → Type 0
+IsEndOfWeek tz second last =
+    ((last ≡ None) × ¬ (IsHeldSecond second)) ⊎ ((today : Date) × ShowsDate tz today second × IsEndOfSixth tz today last)
+
+-- the last date of a month
+abbrev pub IsLastOfMonth : Date → Date → Type 0
+IsLastOfMonth today date = IsYmd today.year (pos today.month) (pos (month_length today)) date
+
+-- the last second of the month of the date that the clock shows at a second
+abbrev pub IsEndOfMonth : TimeZone → ℤ → Option ℤ → Type 0
+IsEndOfMonth tz second last =
+    ((last ≡ None) × ¬ (IsHeldSecond second))
+    ⊎ ((today : Date) × (date : Date) × ShowsDate tz today second × IsLastOfMonth today date × IsLastOf tz date last)

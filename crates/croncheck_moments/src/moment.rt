@@ -10,7 +10,7 @@ ghost use Rattle.jiff.specs.ZoneView.{plain_zone};
 ghost use Rattle.jiff_core.specs.Date.{epoch_day};
 ghost use Rattle.jiff_core.specs.declared.Offset.{Offset};
 ghost use Rattle.jiff_tz.specs.Ambiguous.{IsInstantAt, instant_of};
-ghost use Rattle.croncheck_moments.specs.Moment.{IsEndOfMonth, IsEndOfWeek, ShowsDate, moment_text, IsNamed, IsRead, IsReadShown, IsShownAt, IsShownIn, IsSecondOf, IsLastUpTo, start_from};
+ghost use Rattle.croncheck_moments.specs.Moment.{IsDateAt, IsDaysAfter, IsEndOfMonth, IsEndOfSixth, IsEndOfWeek, ShowsDate, moment_text, IsNamed, IsRead, IsReadShown, IsShownAt, IsShownIn, IsSecondOf, IsLastUpTo, start_from};
 
 use crate::date::{first_second_of, last_second_of, shows_date};
 use jiff::civil::{Date, DateTime};
@@ -201,48 +201,70 @@ fn second_if_shown(
     }
 }
 
-/// The date that a zone's clock shows at a second, if `jiff` holds the second.
+/// The date that a zone's clock shows at a second. There is one exactly where `jiff` holds the second.
 pub fn date_at(zone: &TimeZone<'_>, second: i64) -> Option<Date>
-    ensures { IfSome result (λ date. ShowsDate (plain_zone zone.now) date second) }
+    ensures { IsDateAt (plain_zone zone.now) second result }
 {
-    let instant = Timestamp::from_second(second).ok()?;
-    let date = zone.to_datetime(instant).date();
-    if shows_date(zone, date, second) {
-        Some(date)
-    } else {
-        None
+    match Timestamp::from_second(second) {
+        Ok(instant) => Some(zone.to_datetime(instant).date()),
+        Err(_) => None,
     }
 }
 
-/// The last second of the sixth date after the one that a zone's clock shows at a second, where the clock shows both dates.
+/// The last second of the sixth date after the one that a zone's clock shows at a second. There is none where `jiff` holds no such
+/// second or date, or the clock doesn't show where the date after that begins.
 pub fn last_of_week(zone: &TimeZone<'_>, second: i64) -> Option<i64>
-    ensures { IfSome result (IsEndOfWeek (plain_zone zone.now) second) }
+    ensures { IsEndOfWeek (plain_zone zone.now) second result }
 {
-    let today = date_at(zone, second)?;
-    let sixth = sixth_date_after(today)?;
-    last_second_of(sixth, zone)
+    match date_at(zone, second) {
+        Some(today) => end_of_sixth_after(zone, today),
+        None => None,
+    }
 }
 
-// The sixth date after one, where there is one.
+// The last second of the sixth date after one.
+fn end_of_sixth_after(zone: &TimeZone<'_>, today: Date) -> Option<i64>
+    ensures { IsEndOfSixth (plain_zone zone.now) today result }
+{
+    match sixth_date_after(today) {
+        Some(sixth) => last_second_of(sixth, zone),
+        None => None,
+    }
+}
+
+// The sixth date after one, if there is one.
 #[tactic(auto, using(crate::proofs::DatesAfter::dates_after))]
 fn sixth_date_after(date: Date) -> Option<Date>
-    ensures { IfSome result (λ sixth. epoch_day sixth ≡ epoch_day date +ℤ pos 6) }
+    ensures { IsDaysAfter date (pos 6) result }
 {
-    let third = third_date_after(date)?;
-    third_date_after(third)
+    match third_date_after(date) {
+        Some(third) => third_date_after(third),
+        None => None,
+    }
 }
 
 #[tactic(auto, using(crate::proofs::DatesAfter::dates_after))]
 fn third_date_after(date: Date) -> Option<Date>
-    ensures { IfSome result (λ third. epoch_day third ≡ epoch_day date +ℤ pos 3) }
+    ensures { IsDaysAfter date (pos 3) result }
 {
-    let first = date_after(date)?;
-    let second = date_after(first)?;
-    date_after(second)
+    match date_after(date) {
+        Some(next) => second_date_after(next),
+        None => None,
+    }
+}
+
+#[tactic(auto, using(crate::proofs::DatesAfter::dates_after))]
+fn second_date_after(date: Date) -> Option<Date>
+    ensures { IsDaysAfter date (pos 2) result }
+{
+    match date_after(date) {
+        Some(next) => date_after(next),
+        None => None,
+    }
 }
 
 fn date_after(date: Date) -> Option<Date>
-    ensures { IfSome result (λ next. epoch_day next ≡ epoch_day date +ℤ pos 1) }
+    ensures { IsDaysAfter date (pos 1) result }
 {
     match date.tomorrow() {
         Ok(next) => Some(next),
@@ -250,10 +272,13 @@ fn date_after(date: Date) -> Option<Date>
     }
 }
 
-/// The last second of the month of the date that a zone's clock shows at a second, where the clock shows both dates.
+/// The last second of the month of the date that a zone's clock shows at a second. There is none where `jiff` holds no such second,
+/// or the clock doesn't show where the next month begins.
 pub fn last_of_month(zone: &TimeZone<'_>, second: i64) -> Option<i64>
-    ensures { IfSome result (IsEndOfMonth (plain_zone zone.now) second) }
+    ensures { IsEndOfMonth (plain_zone zone.now) second result }
 {
-    let today = date_at(zone, second)?;
-    last_second_of(today.last_of_month(), zone)
+    match date_at(zone, second) {
+        Some(today) => last_second_of(today.last_of_month(), zone),
+        None => None,
+    }
 }

@@ -91,7 +91,7 @@ joined [] ys zs = refl
 joined (x ∷ xs) ys zs = ap (λ rest. x ∷ rest) (joined xs ys zs)
 
 -- the shortest of two lists' distances is the shorter of theirs
-shortest-joined : (xs ys : List ℕ) (a b : Option ℕ) → IsShortest xs a → IsShortest ys b → IsShortest (xs ++ ys) (shorter a b)
+shortest-joined : (xs ys : List ℕ) (a b : Option ℕ) → IsShortest xs a → IsShortest ys b → IsShortest (xs ++ ys) (shorter_of a b)
 shortest-joined xs ys None b none other = subst (λ zs. IsShortest (zs ++ ys) b) (sym none) other
 shortest-joined xs ys (Some x) None one none = subst (λ zs. IsShortest (xs ++ zs) (Some x)) (sym none) (subst (λ zs. IsShortest zs (Some x)) (sym (nothing_after xs)) one)
 shortest-joined xs ys (Some x) (Some y) one other = by_lt (nat_lt y x) refl where
@@ -144,11 +144,11 @@ seen-more runs i d before shortest h seen =
     }
 
 pub seen-step : (runs : List Run) (i : ℕ) (run : Run) (before : Option ℤ) (shortest distance shorter_one : Option ℕ) (second : ℤ) → i < length runs
-    → run ≡ get_or runs i run → Seen runs i before shortest → distance ≡ distance_of before run → shorter_one ≡ shorter shortest distance
+    → run ≡ get_or runs i run → Seen runs i before shortest → distance ≡ distance_of before run → shorter_one ≡ shorter_of shortest distance
     → second ≡ run.time.second → Seen runs (i + 1) (Some second) shorter_one
 seen-step runs i run before shortest distance shorter_one second h is seen distance_is shorter_is second_is =
     let found : shorter_one ≡ shorter_of shortest (distance_of before (get_or runs i run)) =
-    shorter_is ∙ ap (shorter shortest) (distance_is ∙ ap (distance_of before) is) in
+    shorter_is ∙ ap (shorter_of shortest) (distance_is ∙ ap (distance_of before) is) in
     let at : second ≡ (get_or runs i run).time.second = second_is ∙ ap (λ (x : Run). x.time.second) is in
     subst (λ (x : ℤ). Seen runs (i + 1) (Some x) shorter_one) (sym at)
     (subst (λ (x : Option ℕ). Seen runs (i + 1) (Some (get_or runs i run).time.second) x) (sym found) (seen-more runs i run before shortest h seen))

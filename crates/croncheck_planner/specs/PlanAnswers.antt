@@ -139,5 +139,7 @@ pub record WritesAnswers (s : Settings) (shared : Shared) (front : List ℕ) (jo
   pub is_view : IsViewOf s jobs found view
   pub answers : IsAnswers view asked text
   pub answered : Written
+  pub told : List Job
   pub written : WritesApart text begun answered
-  pub other : WritesOtherAnswers shared view.jobs.now found.plan asked answered new
+  pub told_is : jobs_told told ≡ jobs_planned jobs
+  pub other : WritesOtherAnswers shared told found.plan asked answered new

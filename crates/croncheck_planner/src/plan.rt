@@ -13,11 +13,8 @@ use croncheck_runs::clock::LAST_SECOND as LAST_OF_CLOCK;
 use croncheck_runs::runs::Listing;
 use croner::errors::CronError;
 use croner::time::table::TableTime;
-use cronplan::{Frequent, JobStart, Plan, Schedule, Span, plan_of};
+use cronplan::{Frequent, JobStart, LATEST_END, Plan, Schedule, Span, plan_of};
 use std::alloc::Global;
-
-/// The last second that a span may end with, which isn't in it: 9999-12-31T23:59:59 UTC.
-const LAST_SECOND: i64 = 253_402_300_799;
 
 /// How long the spans are in which so many moments are looked for, one after the other, in seconds: an hour, a day, a week, 31 and 366 days,
 /// and eight of these years.
@@ -235,10 +232,10 @@ fn span_after(start: i64, end: i64) -> Span
 fn first_after(start: i64) -> i64
     ensures { result ≡ first_after start }
 {
-    if start < LAST_SECOND {
+    if start < LATEST_END {
         start + 1
     } else {
-        LAST_SECOND
+        LATEST_END
     }
 }
 
@@ -249,8 +246,8 @@ fn end_after(start: i64, end: i64) -> i64
     let first = first_after(start);
     if end < first {
         first
-    } else if LAST_SECOND < end {
-        LAST_SECOND
+    } else if LATEST_END < end {
+        LATEST_END
     } else {
         end
     }

@@ -1,7 +1,7 @@
 //! Calls of one field.
 
 use crate::{
-    Answer, Caller, Fault, Outcome, Result, given_value, items, list, member, number, parts, word,
+    Answer, Caller, Fault, Outcome, Result, items, list, member, number, parts, shown, word,
 };
 use croner::CronComponent;
 use croner::component::{ALL_BIT, LAST_BIT};

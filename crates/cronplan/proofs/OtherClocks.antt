@@ -28,4 +28,4 @@ shown_within z first starts shown same h =
 pub shown_few : (z : Zone) (most : ℕ) (starts shown : List JobStart) → IsPermutation (map (shown_on z) starts) shown
     → length starts ≤ most → length shown ≤ most
 shown_few z most starts shown same le =
-    subst (λ (n : ℕ). n ≤ most) (sym (length_permutation (map (shown_on z) starts) shown same ∙ length-map (shown_on z) starts)) le
+    subst (λ (n : ℕ). n ≤ most) (sym (length_permutation (map (shown_on z) starts) shown same ∙ length-map starts (shown_on z))) le

@@ -2,7 +2,8 @@
 use Rattle.std.proofs.Common.{◌≡◌, pos, true, false, [], ◌∷◌, refl}
 use Rattle.std.specs.Prelude.{codes}
 use Rattle.cronplan_forms.specs.declared.week.Signs.TheVariants as signs
-use Rattle.cronplan_forms.specs.Weeks.{block_of, digit_of, sign_of, second_of_day}
+use Rattle.cronplan_forms.specs.Clocks.{second_of_day}
+use Rattle.cronplan_forms.specs.Weeks.{block_of, digit_of, sign_of}
 
 -- a step more at 1, 2, 4 and so on: 3 starts are of the second step, 4 of the third, 127 of the seventh, 128 and more of the eighth
 steps : (digit_of 0 ≡ codes ".") × (digit_of 1 ≡ codes "1") × (digit_of 3 ≡ codes "2") × (digit_of 4 ≡ codes "3") × (digit_of 127 ≡ codes "7") × (digit_of 128 ≡ codes "8") × (digit_of 5_000 ≡ codes "8")

@@ -5,7 +5,9 @@ pub mod FoldedLines
 pub mod Gathered
 pub mod MonthGrids
 pub mod MonthParts
+pub mod RunSteps
 pub mod TitleDates
+pub mod ToldOnce
 pub mod UtcClock
 pub mod WeekParts
 mod ExamplesAnswers
@@ -13,3 +15,4 @@ mod ExamplesCalendar
 mod ExamplesEscapes
 mod ExamplesMonths
 mod ExamplesWeeks
+mod ExamplesWindowRuns

@@ -6,12 +6,11 @@ use Rattle.std.proofs.lemmas.List.{at_drop_more}
 use Rattle.cronplan.specs.declared.days.HourCell.{HourCell}
 use Rattle.cronplan.specs.declared.jobs.Frequent.{Frequent}
 use Rattle.cronplan_forms.specs.declared.answers.busy.ShownMoment.{ShownMoment}
-use Rattle.cronplan_forms.specs.declared.answers.quiet.ShownWindow.{ShownWindow}
 use Rattle.cronplan_forms.specs.declared.week.changes.ShownChange.{ShownChange}
 use Rattle.cronplan_forms.specs.declared.week.Signs.{Signs}
 use Rattle.cronplan_forms.specs.declared.week.WeekDay.{WeekDay}
 use Rattle.cronplan_forms.specs.declared.answers.together.ShownSet.{ShownSet}
-use Rattle.cronplan_forms.specs.Answers.{window_line, moment_line, hour_line, hour_lines, left_out_line, added_label, set_line}
+use Rattle.cronplan_forms.specs.Answers.{moment_line, hour_line, hour_lines, left_out_line, added_label, set_line}
 use Rattle.cronplan_forms.specs.Weeks.{sign_of, row_text, step_text, change_line}
 
 -- one element more
@@ -35,11 +34,7 @@ pub changes_step : (xs : List ShownChange) (i : ℕ) (x : ShownChange) → i < l
     → flat_map change_line (drop i xs) ≡ change_line x ++ flat_map change_line (drop (i + 1) xs)
 changes_step xs i x h is = step change_line xs i x h is
 
--- windows, moments, hours and jobs that are left out, as lines
-pub windows_step : (xs : List ShownWindow) (i : ℕ) (x : ShownWindow) → i < length xs → x ≡ get_or xs i x
-    → flat_map window_line (drop i xs) ≡ window_line x ++ flat_map window_line (drop (i + 1) xs)
-windows_step xs i x h is = step window_line xs i x h is
-
+-- moments, hours and jobs that are left out, as lines
 pub moments_step : (xs : List ShownMoment) (i : ℕ) (x : ShownMoment) → i < length xs → x ≡ get_or xs i x
     → flat_map moment_line (drop i xs) ≡ moment_line x ++ flat_map moment_line (drop (i + 1) xs)
 moments_step xs i x h is = step moment_line xs i x h is

@@ -58,9 +58,6 @@ window_text s =
 unfoldable pub window_line : ShownWindow → List ℕ
 window_line s = codes "  " ++ (window_text s ++ codes "\n")
 
-unfoldable pub window_lines : List ShownWindow → List ℕ
-window_lines shown = flat_map window_line shown
-
 -- what stands in front of these lines, or where there is none
 unfoldable pub no_window : ℕ → List ℕ
 no_window least = codes "no window of " ++ (lasting_text least ++ codes " or longer in which nothing starts\n")
@@ -70,10 +67,6 @@ some_windows least = codes "windows of " ++ (lasting_text least ++ codes " or lo
 
 abbrev pub quiet_head : Bool → ℕ → List ℕ
 quiet_head is_empty least = if is_empty then no_window least else some_windows least
-
--- what is told of such windows
-abbrev pub quiet_text : ℕ → List ShownWindow → List ℕ
-quiet_text least shown = quiet_head (length shown == 0) least ++ window_lines shown
 
 -- ---- when most starts
 

@@ -1,8 +1,9 @@
 -- What a clock shows at a second, and how long something lasts. Source: this crate's documentation.
 use Rattle.std.specs.Prelude.{◌≡◌, ℕ, ◌*◌, ◌/◌, ◌%◌, ◌==◌, ℤ, pos, ◌-ℤ◌, int_lt, unsigned_abs, true, false, List, [], ◌∷◌, ◌++◌, codes, if◌then◌else◌}
-use Rattle.std.specs.Int.{saturate_signed}
+use Rattle.std.specs.Int.{int_rem_euclid, saturate_signed}
 use mir.Syntax.{w64}
 use Rattle.jiff_fmt.specs.FriendlyText.{default_printer, total_text}
+use Rattle.croner_base.specs.Calendar.{day_seconds}
 use Rattle.croner_base.specs.Civil.{wall_second, weekday_index, weekday_of_second}
 use Rattle.croner_base.specs.CivilText.{two_places, date_text, time_text}
 use Rattle.croner_base.specs.Table.{is_table_second}
@@ -56,6 +57,10 @@ abbrev pub clock_time_text : ClockTime → List ℕ
 clock_time_text t =
     weekday_text (weekday_index t.weekday) ++ (32 ∷ (date_text t.civil.date.year t.civil.date.month t.civil.date.day ++ (32
     ∷ (time_text t.civil.time.hour t.civil.time.minute t.civil.time.second ++ (32 ∷ ahead_text t.ahead.seconds)))))
+
+-- the second of the day that a wall second is
+abbrev pub second_of_day : ℤ → ℕ
+second_of_day wall = unsigned_abs (int_rem_euclid wall (pos day_seconds))
 
 -- the hour and the minute, as `02:30`
 abbrev pub clock_text : ℕ → List ℕ

@@ -10,4 +10,5 @@ pub mod PlanCalendars
 pub mod PlanMonths
 pub mod Questions
 pub mod Weeks
+pub mod WindowRuns
 pub mod Private

@@ -9,10 +9,11 @@ use Rattle.cronplan_forms.specs.declared.month.Daily.{Daily}
 use Rattle.cronplan_forms.specs.declared.month.Month.{Month}
 use Rattle.cronplan_forms.specs.declared.view.View.{View}
 use Rattle.cronplan_forms.specs.declared.week.Signs.{Signs}
-use Rattle.cronplan_forms.specs.Answers.{IsQuiet, quiet_text, IsBusy, busy_text, IsTogetherShown, labels_of, together_text, titles_of, left_out_text}
+use Rattle.cronplan_forms.specs.Answers.{IsBusy, busy_text, IsTogetherShown, labels_of, together_text, titles_of, left_out_text}
 use Rattle.cronplan_forms.specs.Apart.{set_apart}
 use Rattle.cronplan_forms.specs.Months.{months_text}
 use Rattle.cronplan_forms.specs.PlanMonths.{ArePlanMonths}
+use Rattle.cronplan_forms.specs.WindowRuns.{AreTold, quiet_text}
 use Rattle.cronplan_forms.specs.Weeks.{PlanWeek, IsPlanWeek, week_text}
 
 -- nothing is asked
@@ -31,7 +32,7 @@ IsMonthAnswer v true text = (months : List Month) × (daily : List Daily) × Are
 
 abbrev pub IsQuietAnswer : View → Option ℕ → List ℕ → Type 0
 IsQuietAnswer v None text = text ≡ []
-IsQuietAnswer v (Some least) text = (shown : List ShownWindow) × IsQuiet (table_zone v.table.now) v.plan.now least shown × (text ≡ quiet_text least shown)
+IsQuietAnswer v (Some least) text = (told : List ShownWindow) × AreTold (table_zone v.table.now) v.plan.now least told × (text ≡ quiet_text least told)
 
 abbrev pub IsBusyAnswer : View → Option ℕ → List ℕ → Type 0
 IsBusyAnswer v None text = text ≡ []

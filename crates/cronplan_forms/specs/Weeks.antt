@@ -1,11 +1,10 @@
 -- The dates of a plan as a picture of text. Source: this crate's documentation.
-use Rattle.std.specs.Prelude.{◌≡◌, ℕ, ℤ, pos, ◌+◌, ◌==◌, ◌+ℤ◌, int_lt, nat_lt, unsigned_abs, Bool, List, [], ◌∷◌, ◌++◌, codes, map, Option, Some, None, if◌then◌else◌}
+use Rattle.std.specs.Prelude.{◌≡◌, ℕ, ℤ, pos, ◌+◌, ◌==◌, ◌+ℤ◌, int_lt, nat_lt, Bool, List, [], ◌∷◌, ◌++◌, codes, map, take, Option, Some, None, if◌then◌else◌}
 use Rattle.std.specs.Fmt.{decimal}
-use Rattle.std.specs.Int.{int_rem_euclid, saturate_signed}
+use Rattle.std.specs.Int.{saturate_signed}
 use Rattle.std.specs.List.{All, flat_map}
 use mir.Syntax.{w64}
 use Rattle.croner_base.specs.declared.time.table.ClockTable.{ClockTable}
-use Rattle.croner_base.specs.Calendar.{day_seconds}
 use Rattle.croner_base.specs.TableZone.{table_zone}
 use Rattle.cronplan.specs.declared.changes.ClockChange.{ClockChange}
 use Rattle.cronplan.specs.declared.counts.Unit.TheVariants as units
@@ -15,13 +14,15 @@ use Rattle.cronplan.specs.declared.plan.Plan.{Plan}
 use Rattle.cronplan.specs.declared.start.JobStart.{JobStart}
 use Rattle.cronplan.specs.Counts.{starts_at}
 use Rattle.cronplan.specs.Days.{AreDays}
+use Rattle.cronplan_forms.specs.declared.answers.quiet.ShownWindow.{ShownWindow}
 use Rattle.cronplan_forms.specs.declared.week.Signs.{Signs}
 use Rattle.cronplan_forms.specs.declared.week.Signs.TheVariants as signs
 use Rattle.cronplan_forms.specs.declared.week.WeekDay.{WeekDay}
 use Rattle.cronplan_forms.specs.declared.week.changes.NamedWall.{NamedWall}
 use Rattle.cronplan_forms.specs.declared.week.changes.ShownChange.{ShownChange}
 use Rattle.cronplan_forms.specs.Answers.{starts_text}
-use Rattle.cronplan_forms.specs.Clocks.{clock_text}
+use Rattle.cronplan_forms.specs.Clocks.{clock_text, second_of_day}
+use Rattle.cronplan_forms.specs.WindowRuns.{AreTold, least_longest, longest_text, most_longest, window_runs}
 use Rattle.cronplan_forms.specs.DateNames.{IsDateName, date_name_text, date_of_wall}
 
 -- ---- signs
@@ -63,12 +64,6 @@ step_sign signs.Digits n = digit_of n
 -- the sign of an hour: an x where the clock skips it
 abbrev pub sign_of : Signs → HourCell → List ℕ
 sign_of s cell = if cell.skipped then codes "x" else step_sign s cell.starts
-
--- ---- times of the clock
-
--- the second of the day that a wall second is
-abbrev pub second_of_day : ℤ → ℕ
-second_of_day wall = unsigned_abs (int_rem_euclid wall (pos day_seconds))
 
 -- ---- rows
 
@@ -166,17 +161,19 @@ change_lines changes = flat_map change_line changes
 abbrev pub IsNamedDay : WeekDay → Type 0
 IsNamedDay d = IsDateName d.day.now.date d.name
 
--- the dates of a plan as rows, and the changes of the clock
+-- the dates of a plan as rows, the changes of the clock, and the windows in which nothing starts
 pub record PlanWeek : Type 0 where
   pub rows : List WeekDay
   pub changes : List ShownChange
+  pub windows : List ShownWindow
 
 -- they are those of a plan on the clock of a table: each date of it, with the counts of its starts
 pub record IsPlanWeek (table : ClockTable) (p : Plan) (week : PlanWeek) : Type 0 where
   pub days : AreDays (table_zone table) table.changes.items p.span p.starts.items (map (λ r. r.day.now) week.rows) (map (λ s. s.change) week.changes)
   pub names : All IsNamedDay week.rows
   pub shown : All (IsShownChange p.starts.items) week.changes
+  pub windows_are : AreTold (table_zone table) p least_longest week.windows
 
--- the picture, and below it the changes
+-- the picture, and below it the changes and the longest windows
 abbrev pub week_text : Signs → PlanWeek → List ℕ
-week_text s week = picture_text s week.rows ++ change_lines week.changes
+week_text s week = picture_text s week.rows ++ (change_lines week.changes ++ longest_text (take most_longest (window_runs week.windows)))

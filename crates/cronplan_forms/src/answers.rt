@@ -4,6 +4,7 @@ mod busy;
 mod left_out;
 mod questions;
 mod quiet;
+mod runs;
 mod together;
 
 pub(crate) use busy::Starts;
@@ -11,4 +12,5 @@ pub use busy::{ShownMoment, busy_text};
 pub use left_out::left_out_text;
 pub use questions::{Questions, answers_text};
 pub use quiet::{ShownWindow, quiet_text};
+pub(crate) use runs::{LEAST_LONGEST, push_longest, told_windows, window_runs};
 pub use together::{ShownSet, together_text};

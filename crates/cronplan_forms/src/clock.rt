@@ -2,9 +2,10 @@
 ghost use Rattle.std.specs.Prelude.{◌≡◌};
 ghost use Rattle.croner_base.specs.Civil.{weekday_index};
 ghost use Rattle.croner_base.specs.TableZone.{table_zone};
-ghost use Rattle.cronplan_forms.specs.Clocks.{IsClockAt, IsClockTime, weekday_text};
+ghost use Rattle.cronplan_forms.specs.Clocks.{IsClockAt, IsClockTime, second_of_day, weekday_text};
 
 use crate::ahead::Ahead;
+use croner_base::limits::SECONDS_PER_DAY;
 use croner_base::time::table::{ClockTable, TableTime};
 use croner_base::time::{CivilDate, CivilDateTime, CivilTime, CronDateTime, Weekday};
 use std::fmt;
@@ -84,6 +85,13 @@ pub fn weekday_text(weekday: Weekday) -> &'static str
         Weekday::Friday => "Fri",
         Weekday::Saturday => "Sat",
     }
+}
+
+/// The second of the day of a wall second, from 0 to 86,399.
+pub(crate) fn second_of_day(wall: i64) -> u64
+    ensures { result ≡ second_of_day wall }
+{
+    wall.rem_euclid(i64::from(SECONDS_PER_DAY)) as u64
 }
 
 /// The hour and the minute of a second of the day, as `02:30`.

@@ -1,15 +1,16 @@
 //! The dates of a plan as a picture of text, 80 columns wide: a row a day, a cell an hour.
 ghost use Rattle.std.specs.Prelude.{◌≡◌, ◌++◌, ◌<◌, IfOk, OnOk, string_bytes, codes, map};
 ghost use Rattle.std.specs.List.{All};
-ghost use Rattle.cronplan_forms.specs.Weeks.{block_of, digit_of, step_sign, sign_of, cells_text, moment_text, fullest_text, total_text, row_text, rows_text, head_text, legend_text, steps_text, step_text, picture_text, week_text, second_of_day, IsNamedDay, IsPlanWeek, PlanWeek};
+ghost use Rattle.cronplan_forms.specs.Clocks.{second_of_day};
+ghost use Rattle.cronplan_forms.specs.Weeks.{block_of, digit_of, step_sign, sign_of, cells_text, moment_text, fullest_text, total_text, row_text, rows_text, head_text, legend_text, steps_text, step_text, picture_text, week_text, IsNamedDay, IsPlanWeek, PlanWeek};
 
 mod changes;
 
-use crate::clock::TimeOfDay;
+use crate::answers::{LEAST_LONGEST, push_longest, told_windows, window_runs};
+use crate::clock::{TimeOfDay, second_of_day};
 use crate::date_name::DateName;
 use crate::view::View;
 use changes::{push_changes, shown_changes};
-use croner_base::limits::SECONDS_PER_DAY;
 use cronplan::{Day, HourCell, Moment};
 use std::alloc::{AllocError, Global};
 
@@ -32,7 +33,8 @@ pub struct WeekDay<'w> {
 /// The least starts in an hour of each of the steps.
 const STEPS: [u64; 9] = [0, 1, 2, 4, 8, 16, 32, 64, 128];
 
-/// The picture of a plan: a row a date, and what the signs mean; and below a line for each change of the clock.
+/// The picture of a plan: a row a date, and what the signs mean; below a line for each change of the clock, and the longest windows of an hour
+/// or more in which nothing starts, as `quiet_text` tells them, in five lines at most.
 ///
 /// A sign stands for the number of starts in an hour, in doubling steps; an hour that the clock skips is an `x`. The only error is lack of
 /// memory.
@@ -42,9 +44,12 @@ pub fn week_text(alloc: Global, view: View<'_>, signs: Signs) -> Result<String, 
     let days = view.plan.days(alloc, view.table)?;
     let rows = rows_of(alloc, days.days.as_slice())?;
     let changes = shown_changes(alloc, view.plan, days.changes.as_slice())?;
+    let windows = told_windows(alloc, view, LEAST_LONGEST)?;
+    let runs = window_runs(alloc, windows.as_slice())?;
     let mut text = String::new(alloc);
     push_picture(&mut text, rows.as_slice(), signs)?;
     push_changes(&mut text, changes.as_slice())?;
+    push_longest(&mut text, runs.as_slice())?;
     Ok(text)
 }
 
@@ -223,13 +228,6 @@ fn time_of(moment: Moment) -> u64
     ensures { result ≡ second_of_day moment.wall }
 {
     second_of_day(moment.wall)
-}
-
-/// The second of the day of a wall second, from 0 to 86,399.
-pub(crate) fn second_of_day(wall: i64) -> u64
-    ensures { result ≡ second_of_day wall }
-{
-    wall.rem_euclid(i64::from(SECONDS_PER_DAY)) as u64
 }
 
 // Appends to a text what the signs mean.

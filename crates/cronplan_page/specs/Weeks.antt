@@ -6,7 +6,7 @@ use Rattle.croner_base.specs.CivilText.{two_places}
 use Rattle.cronplan.specs.declared.days.Day.{Day}
 use Rattle.cronplan.specs.declared.days.HourCell.{HourCell}
 use Rattle.cronplan.specs.declared.moments.Moment.{Moment}
-use Rattle.cronplan_forms.specs.Weeks.{second_of_day}
+use Rattle.cronplan_forms.specs.Clocks.{second_of_day}
 use Rattle.cronplan_page.specs.declared.pieces.Piece.TheVariants as pieces
 use Rattle.cronplan_page.specs.declared.timed.NamedDay.{NamedDay}
 use Rattle.cronplan_page.specs.Markup.{number_text}

@@ -1,6 +1,6 @@
 //! The days of a plan as a table: a row a day, a cell an hour.
 ghost use Rattle.std.specs.Prelude.{◌≡◌, ◌++◌, OnOk, string_bytes};
-ghost use Rattle.cronplan_forms.specs.Weeks.{second_of_day};
+ghost use Rattle.cronplan_forms.specs.Clocks.{second_of_day};
 ghost use Rattle.cronplan_page.specs.Weeks.{step_of, count_text, class_of, cell_text, cells_text, hour_text, fullest_of, fullest_cell, day_cells, row_text, rows_text, week_text};
 
 use crate::markup::push_number;

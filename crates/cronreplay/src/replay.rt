@@ -15,7 +15,7 @@ pub struct Replay {
 impl Tool for Replay {
     fn answer(&self, question: &Value) -> Result<Value> {
         let got = match answer(self.alloc, question) {
-            Err(Fault::Refused(error)) => refused(self.alloc, question, &error)?,
+            Err(Fault::Refused(error)) => refusal_wanted(self.alloc, question, &error)?,
             answered => answered?,
         };
         match question.get("want") {
@@ -39,9 +39,9 @@ impl Tool for Replay {
 
 // A refusal as the question wants it: the name of its variant, or, if the member `message` is `"whole"`, the message. If that
 // member is a number of bytes, it is the name if the message has no more bytes, or else how many it has.
-fn refused(alloc: Global, question: &Value, error: &CronError) -> Result<Value> {
+fn refusal_wanted(alloc: Global, question: &Value, error: &CronError) -> Result<Value> {
     match question.get("message") {
-        None => shown::refused(alloc, error),
+        None => shown::refusal_value(alloc, error),
         Some(form) => message_or_length(alloc, form.as_u64(), error),
     }
 }
@@ -51,7 +51,7 @@ fn message_or_length(alloc: Global, most: Option<u64>, error: &CronError) -> Res
     let bytes = message.len() as u64;
     match most {
         None => Ok(Value::String(message)),
-        Some(most) if bytes <= most => shown::refused(alloc, error),
+        Some(most) if bytes <= most => shown::refusal_value(alloc, error),
         Some(_) => Ok(Value::from(bytes)),
     }
 }

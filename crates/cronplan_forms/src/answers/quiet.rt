@@ -2,8 +2,10 @@
 ghost use Rattle.std.specs.Prelude.{◌≡◌, ◌++◌, IfOk, List, OnOk, map, string_bytes};
 ghost use Rattle.std.specs.List.{All};
 ghost use Rattle.croner_base.specs.TableZone.{table_zone};
-ghost use Rattle.cronplan_forms.specs.Answers.{IsShownWindow, IsQuiet, is_at_edge, is_edge, window_line, window_lines, no_window, some_windows, quiet_head, quiet_text};
+ghost use Rattle.cronplan_forms.specs.Answers.{IsShownWindow, is_at_edge, is_edge, window_line, no_window, some_windows, quiet_head};
+ghost use Rattle.cronplan_forms.specs.WindowRuns.{AreTold, quiet_text};
 
+use crate::answers::runs::{push_runs, told_windows, window_runs};
 use crate::clock::ClockTime;
 use crate::lasting::Lasting;
 use crate::view::View;
@@ -20,20 +22,24 @@ pub struct ShownWindow {
     pub until: ClockTime,
 }
 
-/// The windows of a plan of at least `least` seconds in which nothing starts: the longest first, and of equal ones the earlier. A line says
-/// from when to when a window is, and how long. If the plan begins or ends with it, `or longer` follows.
+/// The windows of a plan of at least `least` seconds in which nothing starts: the longest first, of equal ones the one that begins earlier in
+/// the day, then the earlier. A line says from when to when a window is, and how long. If the plan begins or ends with it, `or longer`
+/// follows.
+///
+/// Windows that come again from day to day stand in one line: at the same times of the clock on dates that follow each other, as long, and as
+/// far ahead of UTC. It says on which dates these begin, and where they end on the next day. One that may be longer, or in which the clock is
+/// put forward or back, stands by itself.
 ///
 /// The only error is lack of memory.
 pub fn quiet_text(alloc: Global, view: View<'_>, least: u64) -> Result<String, AllocError>
-    ensures { IfOk result (λ t. (shown : List ShownWindow) × IsQuiet (table_zone view.entry.table.now) view.entry.plan.now least shown × (string_bytes t ≡ quiet_text least shown)) }
+    ensures { IfOk result (λ t. (told : List ShownWindow) × AreTold (table_zone view.entry.table.now) view.entry.plan.now least told × (string_bytes t ≡ quiet_text least told)) }
 {
-    let windows = view.plan.quiet_windows(alloc, least)?;
-    let shown = shown_windows(alloc, view.table, windows.as_slice())?;
-    text_of_windows(alloc, shown.as_slice(), least)
+    let told = told_windows(alloc, view, least)?;
+    text_of_windows(alloc, told.as_slice(), least)
 }
 
-// What the clock of a table shows at the sides of windows.
-fn shown_windows(
+/// What the clock of a table shows at the sides of windows. The only error is lack of memory.
+pub(crate) fn shown_windows(
     alloc: Global,
     table: &ClockTable,
     windows: &[Window],
@@ -62,9 +68,10 @@ fn shown_window(table: &ClockTable, window: Window) -> ShownWindow
 fn text_of_windows(alloc: Global, windows: &[ShownWindow], least: u64) -> Result<String, AllocError>
     ensures { IfOk result (λ t. string_bytes t ≡ quiet_text least windows.now) }
 {
+    let runs = window_runs(alloc, windows)?;
     let mut text = String::new(alloc);
     push_head(&mut text, windows.is_empty(), least)?;
-    push_windows(&mut text, windows)?;
+    push_runs(&mut text, runs.as_slice())?;
     Ok(text)
 }
 
@@ -100,18 +107,8 @@ fn push_some(text: &mut String, least: u64) -> Result<(), AllocError>
     )
 }
 
-#[tactic(auto, using(crate::proofs::WeekParts::windows_step), unfolding(crate::specs::Answers::window_lines))]
-fn push_windows(text: &mut String, windows: &[ShownWindow]) -> Result<(), AllocError>
-    ensures { OnOk result (string_bytes text.new ≡ string_bytes text.old ++ window_lines windows.now) }
-{
-    for window in windows {
-        push_window(text, *window)?;
-    }
-    Ok(())
-}
-
 #[tactic(auto, unfolding(crate::specs::Answers::window_line))]
-fn push_window(text: &mut String, window: ShownWindow) -> Result<(), AllocError>
+pub(crate) fn push_window(text: &mut String, window: ShownWindow) -> Result<(), AllocError>
     ensures { OnOk result (string_bytes text.new ≡ string_bytes text.old ++ window_line window) }
 {
     write!(text, "  {window}\n")
@@ -135,8 +132,8 @@ impl fmt::Display for ShownWindow {
     }
 }
 
-// Whether a window may be longer than the plan has it.
-fn is_at_edge(window: &Window) -> bool
+/// Whether a window may be longer than the plan has it.
+pub(crate) fn is_at_edge(window: &Window) -> bool
     ensures { result ≡ is_at_edge window.now }
 {
     is_edge(window.from.bound) || is_edge(window.until.bound)

@@ -3,9 +3,8 @@ ghost use Rattle.std.specs.Prelude.{◌≡◌, ◌++◌, IfOk, OnOk, map, string
 ghost use Rattle.std.specs.List.{All};
 ghost use Rattle.cronplan_forms.specs.Weeks.{kind_text, IsShownChange, IsNamedWall, expected_wall, is_put_forward, change_line, change_lines, forward_text, back_text};
 
-use super::second_of_day;
 use crate::answers::Starts;
-use crate::clock::TimeOfDay;
+use crate::clock::{TimeOfDay, second_of_day};
 use crate::date_name::{DateName, date_of_wall};
 use cronplan::{ClockChange, Plan, Unit};
 use std::alloc::{AllocError, Global};

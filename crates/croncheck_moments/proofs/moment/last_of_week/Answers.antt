@@ -1,14 +1,13 @@
-use Rattle.std.proofs.Common.{rules, ℤ, SFits, w64, subst}
+use Rattle.std.proofs.Common.{inr, rules, ℤ, SFits, w64, subst}
 use Rattle.std.proofs.lemmas.Int.{to_z-of_z}
 use Rattle.jiff.specs.ZoneView.{plain_zone}
 use Rattle.croncheck_moments.specs.Moment.{ShowsDate}
-use Rattle.croncheck_moments.proofs.DatesAfter.{ends_week}
 use Rattle.croncheck_moments.proofs.moment.last_of_week.Goals as goal
 
-pub returns : goal.returns
-returns c =
-    let tz = plain_zone c.args.zone.now in
-    let today = c.in_ok-today.today in
+pub returns-in-Some : goal.returns-in-Some
+returns-in-Some c =
+    let today = c.in-Some.today in
     let fits : SFits w64 c.args.second = search rules in
-    let shown : ShowsDate tz today c.args.second = subst (λ (second : ℤ). ShowsDate tz today second) (to_z-of_z w64 c.args.second fits) c.in_ok-today.ensures in
-    ends_week tz c.args.second today c.in_ok-sixth.sixth c.last_second_of.result shown c.in_ok-sixth.ensures c.last_second_of.ensures
+    let shown : ShowsDate (plain_zone c.args.zone.now) today c.args.second =
+    subst (λ (second : ℤ). ShowsDate (plain_zone c.args.zone.now) today second) (to_z-of_z w64 c.args.second fits) c.in-Some.ensures in
+    inr (today, shown, c.end_of_sixth_after.ensures)

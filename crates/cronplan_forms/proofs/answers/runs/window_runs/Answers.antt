@@ -1,0 +1,8 @@
+use Rattle.std.proofs.Common.{arith, rules, ◌<◌, length}
+use Rattle.cronplan_forms.proofs.RunSteps.{run_more}
+use Rattle.cronplan_forms.proofs.answers.runs.window_runs.Goals as goal
+
+pub loop-rest-preserved : goal.loop-rest-preserved
+loop-rest-preserved c =
+    run_more c.loop-rest.runs.items c.push.new.self.items _ c.loop-rest.rest.now c.split_at.result.1.now c.run_length.result _ c.in_ok-push.ensures.items (search rules)
+    c.run_length.ensures.value c.split_at.ensures.front c.split_at.ensures.back c.loop-rest.invariant
