@@ -1,8 +1,10 @@
 //! Questions about a clock whose answers are lists of runs, or readings.
 
+use croner::CompactCron;
+use croner::errors::CronError;
 use croner::time::Direction;
 use croner_rows::{
-    Caller, How, Moment, Outcome, OverTime, Result, Runs, Subject, flag, number_at, over_time,
+    Caller, How, Moment, Outcome, OverTime, Result, Run, Runs, Subject, flag, number_at, over_time,
     shown, switch,
 };
 use serde_json::Value;
@@ -30,7 +32,7 @@ impl<'j> OverTime for Asked<'j> {
     fn outcome<T: Moment>(&self, caller: Caller<'_>, start: T) -> Result<Outcome> {
         let (alloc, question) = (caller.alloc, self.question);
         let answer = match self.ask {
-            Ask::Search(subject, direction) => runs(alloc, question, subject, start, direction),
+            Ask::Search(subject, direction) => found(alloc, question, subject, &start, direction),
             Ask::Items(subject) => items(alloc, question, subject, start),
             Ask::Reading => reading(alloc, &start),
         };
@@ -43,24 +45,93 @@ pub fn answer_from_start(caller: Caller<'_>, question: &Value, ask: Ask<'_>) -> 
     over_time(caller, question, &Asked { question, ask })
 }
 
+// The runs of a subject; of a job if its form in few words has the same, or else those of both forms.
+fn found<T: Moment>(
+    alloc: Global,
+    question: &Value,
+    subject: Subject<'_>,
+    start: &T,
+    direction: Direction,
+) -> Result<Value> {
+    let found = runs(
+        alloc,
+        question,
+        Searched::Subject(subject),
+        start,
+        direction,
+    )?;
+    let Subject::Job(job) = subject else {
+        return Ok(found);
+    };
+    let compact = CompactCron::of(alloc, &job.cron)?;
+    let found_compactly = runs(
+        alloc,
+        question,
+        Searched::Compact(&compact),
+        start,
+        direction,
+    )?;
+    if found_compactly == found {
+        return Ok(found);
+    }
+    shown::pair(alloc, found, found_compactly)
+}
+
+// What is searched.
+#[derive(Clone, Copy)]
+enum Searched<'j> {
+    Subject(Subject<'j>),
+    Compact(&'j CompactCron),
+}
+
+impl<'j> Searched<'j> {
+    // The nearest run from a time on in a direction.
+    fn run_from<T: Moment>(
+        self,
+        position: &T,
+        inclusive: bool,
+        direction: Direction,
+    ) -> Result<Run<T>, CronError> {
+        match (self, direction) {
+            (Searched::Subject(subject), _) => subject.run_from(position, inclusive, direction),
+            (Searched::Compact(job), Direction::Forward) => {
+                Ok(run_at(job.find_next_occurrence(position, inclusive)?))
+            }
+            (Searched::Compact(job), Direction::Backward) => {
+                Ok(run_at(job.find_previous_occurrence(position, inclusive)?))
+            }
+        }
+    }
+}
+
+fn run_at<T>(instant: T) -> Run<T> {
+    Run {
+        instant,
+        places: None,
+    }
+}
+
 // The runs from a start on in a direction, nearest first. Where a search is refused, the refusal is the last item.
 fn runs<T: Moment>(
     alloc: Global,
     question: &Value,
-    subject: Subject<'_>,
-    start: T,
+    searched: Searched<'_>,
+    start: &T,
     direction: Direction,
 ) -> Result<Value> {
     let count: u64 = number_at(question, "count")?;
-    let mut inclusive = flag(question, "inclusive")?;
-    let mut position = start;
+    let inclusive = flag(question, "inclusive")?;
+    let mut last = None;
     let mut runs = Vec::new(alloc);
     for _ in 0..count {
-        match subject.run_from(&position, inclusive, direction) {
+        let found = match &last {
+            None => searched.run_from(start, inclusive, direction),
+            Some(run) => searched.run_from(run, false, direction),
+        };
+        match found {
             Ok(run) => {
                 runs.push(run.shown(alloc)?)?;
-                position = run.instant;
-                inclusive = false;
+                last = Some(run.instant);
             }
             Err(refused) => {
                 runs.push(shown::refusal_value(alloc, &refused)?)?;

@@ -3,15 +3,18 @@
 //! a summary comes last.
 #![tactic(auto)]
 
+mod alike;
 mod answers;
 mod command;
 mod compare;
 mod component;
 mod debug;
+mod draws;
 mod explain;
 mod json;
 mod laws;
 mod narrow;
+mod patterns;
 mod question;
 mod replay;
 mod schedulers;

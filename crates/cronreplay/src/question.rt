@@ -1,5 +1,6 @@
 //! The operations by their names.
 
+use crate::alike::alike;
 use crate::answers::{Ask, answer_from_start};
 use crate::command::cronrun;
 use crate::compare::compare;
@@ -39,6 +40,7 @@ pub fn answer(alloc: Global, question: &Value) -> Result<Value> {
         "table_change" => tables::change(alloc, question),
         "scheduler" => scheduler(alloc, question),
         "starts" => starts(alloc, question),
+        "alike" => alike(alloc, question),
         op => match op.strip_prefix("table_") {
             Some(op) => answer_on_table(alloc, question, op, &Table::read(alloc, question)?.jobs),
             None => answer_of_job(alloc, question, op),
