@@ -50,6 +50,9 @@ use std::{env, fs, io};
 
 const MISUSED: u8 = 2;
 
+/// What answers call the zone whose clock is shown besides.
+const SECOND_ZONE: &str = "the second zone";
+
 /// The folder in which this machine's files stand.
 const THIS_MACHINE: &str = "/";
 
@@ -314,19 +317,13 @@ fn check_in<'z>(
         allowed.as_slice(),
         known_users(&users),
     );
-    let zone_name = zone.iana_name().unwrap_or(call.zone);
-    let shared = Shared::of(zone, zone_name, settings.of(Dialect::User));
-    let shared = match &other_zone {
-        Some(other) => shared.with_other_zone(*other, other_name_of(call, other)),
+    let shared = Shared::of(zone, "", settings.of(Dialect::User));
+    let shared = match other_zone {
+        Some(other) => shared.with_other_zone(other, SECOND_ZONE),
         None => shared,
     };
     let kinds = TermsByKind::new(rt.alloc(), &settings, &shared);
     tell_of_machine(rt, call, &kinds, &root, &users)
-}
-
-// What the other zone is called: by its name, or as the call has it.
-fn other_name_of<'c>(call: &'c Call<'_>, other: &'c TimeZone<'_>) -> &'c str {
-    other.iana_name().unwrap_or(call.show_zone.unwrap_or(""))
 }
 
 // Where runs are listed from: at the begin of the month where the grid of one is asked for and no word says it.

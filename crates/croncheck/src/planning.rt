@@ -10,6 +10,7 @@ use croncheck_reading::files::tell_files;
 use croncheck_reading::form::Form;
 use croncheck_reading::progress::TermsByKind;
 use croncheck_reading::sink::Sink;
+use croncheck_report::shared::Shared;
 use croncheck_runs::clock::NoClock;
 use croner_base::time::CivilDateTime;
 use cronplan_forms::{Naming, Signs};
@@ -130,7 +131,7 @@ fn write_page(
         return Err(Problem::OutOfMemory);
     };
     let terms = kinds.of(Dialect::User);
-    let zone = terms.shared.zone_name;
+    let zone = zone_word(call, terms.shared);
     let Ok(text) = taken
         .sink
         .form()
@@ -164,12 +165,17 @@ fn write_json(
     let planner = Planner::new(rt.alloc(), asked);
     let taken = take_files(rt, kinds, sources, planner)?;
     let terms = kinds.of(Dialect::User);
-    let zone = terms.shared.zone_name;
+    let zone = zone_word(call, terms.shared);
     let Ok(text) = taken.sink.form().json(&terms, zone) else {
         return Err(Problem::OutOfMemory);
     };
     write_text(rt, call, text.as_str())?;
     Ok(taken.status)
+}
+
+// What a zone is called: by its name, or as the call has it.
+fn zone_word<'c>(call: &'c Call<'_>, shared: &'c Shared<'_>) -> &'c str {
+    shared.zone.iana_name().unwrap_or(call.zone)
 }
 
 // Writes the text of a file: to that which the call names, and else to standard output.

@@ -12,7 +12,7 @@ use jiff::tz::TimeZone;
 pub struct Shared<'z> {
     /// The zone whose clock is shown.
     pub zone: TimeZone<'z>,
-    /// What that zone is called.
+    /// What that zone is called; empty where that isn't told.
     pub zone_name: &'z str,
     /// Where the clock's window ends before year 5000 does.
     pub stop: Option<Stop>,
@@ -26,7 +26,7 @@ pub struct Shared<'z> {
     pub followed_from: Option<i64>,
     /// Another zone, whose clock is shown too.
     pub other_zone: Option<TimeZone<'z>>,
-    /// What that other zone is called; empty where there is none.
+    /// What answers call that other zone; empty where there is none.
     pub other_name: &'z str,
 }
 
