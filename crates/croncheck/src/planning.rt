@@ -64,22 +64,18 @@ fn take_files<'s, 't, F: Form + Drop>(
     form: F,
 ) -> Result<Taken<'s, 't, F>, Problem> {
     let terms = kinds.of(Dialect::User);
-    let mut notes = Vec::new(rt.alloc());
+    let mut notes = rt.stderr();
     let mut sink = Sink::new(terms, form, Vec::new(rt.alloc()));
-    let told = tell_files(sources.machine, kinds, sources.files, &mut sink, &mut notes);
-    write_notes(rt, sink.out().as_slice(), notes.as_slice())?;
-    let status = told.map_err(Problem::Unwritten)?;
+    let status = tell_files(sources.machine, kinds, sources.files, &mut sink, &mut notes).map_err(
+        Problem::Unwritten,
+    )?;
+    notes
+        .write_all(sink.out().as_slice())
+        .map_err(Problem::Unwritten)?;
     if status == UNREAD {
         return Err(Problem::Unread);
     }
     Ok(Taken { sink, status })
-}
-
-// Writes to standard error what the form told, and below it the notes: the counts, and which files aren't read.
-fn write_notes(rt: &HostRuntime, told: &[u8], notes: &[u8]) -> Result<(), Problem> {
-    let mut stderr = rt.stderr();
-    stderr.write_all(told).map_err(Problem::Unwritten)?;
-    stderr.write_all(notes).map_err(Problem::Unwritten)
 }
 
 // Writes the calendar of the files' jobs. The status is 1 where it hasn't all starts.
