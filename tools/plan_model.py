@@ -17,6 +17,7 @@ import crontab_model
 
 DAY, HOUR = 86_400, 3_600
 MOST_STARTS = 100_000
+SKIPPED, OUTSIDE = "x", "-"
 ALLOWS = re.compile(rb"[ \t]*#[ \t]*croncheck:[ \t]+allow(?![^ \t])")
 
 
@@ -171,16 +172,16 @@ class Plan:
             else:
                 self.starts += [(second, place, count) for second, count in found]
         self.starts.sort()
+        self.shows_all = not self.left_out
         self.is_cut = len(self.starts) > MOST_STARTS
         if self.is_cut:
             self.end = self.starts[MOST_STARTS][0]
             self.starts = [start for start in self.starts if start[0] < self.end]
 
     def on_clock(self, zone):
-        """The same starts on the clock of another zone. What is left out isn't named again."""
+        """The same starts on the clock of another zone."""
         other = copy.copy(self)
         other.zone, other.clock = zone, crontab_model.Clock(zone, self.first - 1, self.end)
-        other.left_out, other.is_cut = [], False
         return other
 
     def most_on_a_date(self, found):
@@ -215,6 +216,10 @@ class Plan:
         counted = [(second, sum(count for _, count in started)) for second, started in self.moments()]
         return sorted(counted, key=lambda it: (-it[1], it[0]))[:most]
 
+    def starts_on(self, date):
+        """How many starts there are on a date."""
+        return sum(count for count in self.hours_of_date(date) if count not in (SKIPPED, OUTSIDE))
+
     def hours(self):
         """How many starts come in each hour of the day."""
         found = [0] * 24
@@ -247,15 +252,23 @@ class Plan:
 
     @functools.lru_cache(maxsize=None)
     def hours_of_date(self, date):
-        """How many starts there are in each hour of a date. Of one that the clock skips as a whole, within the span, there is nothing."""
-        found = [None if self.is_skipped(date * DAY + hour * HOUR) else 0 for hour in range(24)]
+        """How many starts there are in each hour of a date. Where the clock doesn't show it in the span, it is SKIPPED or OUTSIDE."""
+        found = [self.none_in(date * DAY + hour * HOUR) for hour in range(24)]
         for second, _, count in self.starts:
             if self.wall(second) // DAY == date:
                 found[self.wall(second) % DAY // HOUR] += count
         return found
 
-    def is_skipped(self, begin):
-        return any(before <= begin and begin + HOUR <= after for _, before, after, _ in self.changes())
+    def none_in(self, begin):
+        """No start in an hour; or what is said of one that the clock doesn't show in the span."""
+        if any(self.wall(first) < begin + HOUR and begin <= self.wall(end - 1) for first, end in self.stretches()):
+            return 0
+        return SKIPPED if any(before <= begin and begin + HOUR <= after for _, before, after, _ in self.changes()) else OUTSIDE
+
+    def stretches(self):
+        """The span, cut where the clock changes."""
+        cuts = sorted({self.first, self.end, *(second for second, *_ in self.changes())})
+        return list(zip(cuts, cuts[1:]))
 
     def times_shown(self, begin):
         """How many times the clock shows the minutes of an hour, of those that it shows."""

@@ -7,7 +7,7 @@ import re
 
 import plan_readers
 import plan_texts
-from plan_model import DAY, shown
+from plan_model import DAY, OUTSIDE, SKIPPED, shown
 
 MOST_MARKS = 200
 # What may stand behind a warning of two day fields, which isn't compared.
@@ -97,7 +97,8 @@ def judge_quiet(tally, what, case, plan, sections):
     for begin, end, length, is_open in plan.windows(1)[:5]:
         told = f"{plan_texts.time_text(plan, begin)} to {plan_texts.time_text(plan, end)} {plan_texts.length_text(length)}"
         wanted.append(told + (", or longer" if is_open else ""))
-    tally.take(f"{what}: quiet windows", sections.lines("Longest quiet windows"), wanted or ["There is none."])
+    none = ["None of the jobs shown starts in between.", "There is none."]
+    tally.take(f"{what}: quiet windows", sections.lines("Longest quiet windows"), wanted or none)
 
 
 def judge_fullest(tally, what, case, plan, sections):
@@ -105,7 +106,7 @@ def judge_fullest(tally, what, case, plan, sections):
     for second, count in plan.fullest(5):
         jobs = ", ".join(shown(plan.jobs[place].title) + times_behind(times) for place, times in started[second])
         wanted.append(plain(f"{plan_texts.time_text(plan, second)} {plan_texts.many(count)}, {jobs}"))
-    tally.take(f"{what}: fullest moments", sections.lines("Fullest moments"), wanted or ["Nothing starts."])
+    tally.take(f"{what}: fullest moments", sections.lines("Fullest moments"), wanted or ["None of the jobs shown starts."])
 
 
 def judge_table(tally, what, case, plan, sections):
@@ -118,7 +119,7 @@ def judge_table(tally, what, case, plan, sections):
         hours, fullest = plan.hours_of_date(number), plan.fullest_of_date(number)
         cells = [cell_of(count, plan.is_shown_twice(number, hour)) for hour, count in enumerate(hours)]
         told = f"{fullest[1]} at {plan_texts.clock_text(plan.wall(fullest[0]))}" if fullest else ""
-        wanted.append([f"{plan_texts.weekday(number)} {plan_texts.date_text(number)}", cells, [str(sum(filter(None, hours))), told]])
+        wanted.append([f"{plan_texts.weekday(number)} {plan_texts.date_text(number)}", cells, [str(plan.starts_on(number)), told]])
     tally.take(f"{what}: starts by hour", rows, wanted)
     head = [plain(cell.text()) for element in sections.named("Starts by hour") for cell in element.all("th") if cell.attributes.get("scope") == "col"]
     tally.take(f"{what}: hours of the table", head[:24], [f"{hour:02}" for hour in range(24)])
@@ -127,8 +128,8 @@ def judge_table(tally, what, case, plan, sections):
 
 
 def cell_of(count, is_twice):
-    if count is None:
-        return "x", "x"
+    if count in (SKIPPED, OUTSIDE):
+        return count, "x"
     return str(count) if count else "", " ".join([f"s{plan_texts.step_of(count)}"] + (["t"] if is_twice else []))
 
 

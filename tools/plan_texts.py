@@ -2,7 +2,7 @@
 --month, --quiet, --busy and --together. Each is a list of blocks, between which an empty line stands, and a block is a list of lines.
 """
 import model
-from plan_model import DAY, HOUR, front, shown
+from plan_model import DAY, HOUR, OUTSIDE, SKIPPED, front, shown
 
 WEEKDAYS = ["Sun", "Mon", "Tue", "Wed", "Thu", "Fri", "Sat"]
 MONTHS = [
@@ -78,11 +78,20 @@ def answer_blocks(plan, answers):
     """What stands in front of answers, and these."""
     head = [["these are cron's starts"]] if plan.starts else []
     left_out = left_out_lines(plan)
-    return head + ([left_out] if left_out else []) + answers
+    return head + ([left_out] if left_out else []) + [clock_lines(plan)] + answers
+
+
+def clock_lines(plan):
+    return [f"on the clock of {plan.zone}:"]
+
+
+def silence(plan):
+    return "nothing starts" if plan.shows_all else "nothing starts but what is left out"
 
 
 def left_out_lines(plan):
-    found = [f"left out, since it starts too often: {excerpt(shown(plan.jobs[place].title))}, {many(count)}" for place, count in plan.left_out]
+    jobs = [(plan.jobs[place], count) for place, count in plan.left_out]
+    found = [f"left out, since it starts too often: {job.label} {excerpt(shown(job.title))}, {many(count)}" for job, count in jobs]
     return found + (["the plan ends after 100000 starts, before what was asked for"] if plan.is_cut else [])
 
 
@@ -93,8 +102,8 @@ def excerpt(text, most=64):
 def quiet_lines(plan, least):
     lines = window_lines(plan, least)
     if not lines:
-        return [f"no window of {length_text(least)} or longer in which nothing starts"]
-    return [f"windows of {length_text(least)} or longer in which nothing starts:"] + lines
+        return [f"no window of {length_text(least)} or longer in which {silence(plan)}"]
+    return [f"windows of {length_text(least)} or longer in which {silence(plan)}:"] + lines
 
 
 def window_lines(plan, least):
@@ -127,7 +136,7 @@ def days_line(plan, window, first, last):
 
 def busy_lines(plan, most):
     if not plan.starts:
-        return ["no moment: nothing starts"]
+        return [f"no moment: {silence(plan)}"]
     found = ["the fullest moments:"]
     found += [f"  {time_text(plan, second)}  {many(count)}" for second, count in plan.fullest(most)]
     found.append("starts by the hour of the day:")
@@ -153,14 +162,16 @@ def week_lines(plan, signs):
     found = [HOURS]
     for date in plan.dates():
         hours = plan.hours_of_date(date)
-        cells = " ".join("x" if count is None else signs[step_of(count)] for count in hours)
+        cells = " ".join(count if count in (SKIPPED, OUTSIDE) else signs[step_of(count)] for count in hours)
         fullest = plan.fullest_of_date(date)
         told = f", {fullest[1]} at {clock_text(plan.wall(fullest[0]))}" if fullest else ""
-        found.append(f"{date_name(date)}  {cells} {sum(filter(None, hours))}{told}")
+        found.append(f"{date_name(date)}  {cells} {plan.starts_on(date)}{told}")
     found.append("  ".join(f"{sign}={least}" for sign, least in zip(signs, STEPS)) + "  starts in an hour, or more")
-    found += ["x: the clock skips the hour"] + [change_line(*change) for change in plan.changes()]
+    all_hours = [count for date in plan.dates() for count in plan.hours_of_date(date)]
+    meanings = {SKIPPED: "x: the clock skips the hour", OUTSIDE: "-: not in the plan"}
+    found += [text for sign, text in meanings.items() if sign in all_hours] + [change_line(*change) for change in plan.changes()]
     longest = window_lines(plan, HOUR)[:5]
-    return found + (["longest windows in which nothing starts:"] + longest if longest else [])
+    return found + ([f"longest windows in which {silence(plan)}:"] + longest if longest else [])
 
 
 def change_line(_, before, after, count):

@@ -1,5 +1,6 @@
-//! The program's input: its word, and the patterns.
+//! The program's input: its words, and the patterns.
 
+use crate::forms::JobForm;
 use std::alloc::Global;
 use std::{env, io};
 
@@ -22,9 +23,12 @@ pub enum Asked {
     Rounds(u32),
     /// Answer cases of calls that ask for memory.
     Memory,
+    /// Keep so many jobs of a form in a scheduler.
+    Keep(JobForm, u32),
 }
 
-/// What the program's word asks for: a number of rounds above 0, or `memory`. `None` where the words don't have that form.
+/// What the program's words ask for: a number of rounds above 0, `memory`, or `keep` with a form and a number of jobs. `None` where
+/// the words don't have that form.
 pub fn asked_by(words: &[String]) -> Option<Asked> {
     match words {
         [] => Some(Asked::Rounds(ROUNDS)),
@@ -32,6 +36,10 @@ pub fn asked_by(words: &[String]) -> Option<Asked> {
         [rounds] => {
             let rounds = rounds.as_str().parse().ok().filter(|rounds| *rounds > 0)?;
             Some(Asked::Rounds(rounds))
+        }
+        [word, form, jobs] if word.as_str() == "keep" => {
+            let (form, jobs) = (JobForm::named(form.as_str())?, jobs.as_str().parse().ok()?);
+            Some(Asked::Keep(form, jobs))
         }
         _ => None,
     }

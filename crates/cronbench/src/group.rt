@@ -1,6 +1,7 @@
 //! The groups of calls that are measured.
 
 use crate::answers::Answers;
+use crate::forms::JobForm;
 use crate::many::{ITEMS, LONG_ITEMS};
 use crate::passes::{
     compare, copy, describe, iterate, limit, matching, next, parse, previous, read_hostile,
@@ -13,12 +14,13 @@ use croner::describe::lang::english::English;
 use croner::describe::lang::swedish::Swedish;
 use croner::errors::CronError;
 use croner::time::table::TableTime;
+use croner::{CompactCron, Cron};
 use std::alloc::Global;
 use std::slice::from_ref;
 
 /// A zone in which a scheduler's jobs run.
 #[derive(Clone, Copy)]
-pub enum Place {
+pub enum JobZone {
     Utc,
     Paris,
 }
@@ -64,11 +66,15 @@ pub enum Group {
     OverADay,
     HourlyOverAnHour,
     OftenOverAnHour,
-    Scheduler(Call, u32, Place),
+    Scheduler(JobForm, Calls),
 }
 
-/// Every group and its name, in the order in which they are shown.
-pub const GROUPS: [(Group, &str); 49] = [
+/// Calls of a scheduler: of one kind, on so many jobs, in a zone.
+#[derive(Clone, Copy)]
+pub struct Calls(Call, u32, JobZone);
+
+/// Every group and its name, but those of a scheduler, in the order in which they are shown.
+pub const GROUPS: [(Group, &str); 33] = [
     (Group::Parse, "parse"),
     (Group::MatchCivil, "match, civil time"),
     (Group::NextCivil, "next run, civil time"),
@@ -126,77 +132,81 @@ pub const GROUPS: [(Group, &str); 49] = [
         Group::OftenOverAnHour,
         "next run of */5 * * * *, over a gap of an hour",
     ),
+];
+
+/// The calls of a scheduler and their names, which are shown after the others for each form of job.
+pub const SCHEDULERS: [(Calls, &str); 16] = [
     (
-        Group::Scheduler(Call::WakeMany, THOUSAND, Place::Utc),
+        Calls(Call::WakeMany, THOUSAND, JobZone::Utc),
         "wake-up of 1,000 jobs, 4 in 100 run, UTC",
     ),
     (
-        Group::Scheduler(Call::WakeOne, THOUSAND, Place::Utc),
+        Calls(Call::WakeOne, THOUSAND, JobZone::Utc),
         "wake-up of 1,000 jobs, one runs, UTC",
     ),
     (
-        Group::Scheduler(Call::Add, THOUSAND, Place::Utc),
+        Calls(Call::Add, THOUSAND, JobZone::Utc),
         "a job that comes to 1,000, UTC",
     ),
     (
-        Group::Scheduler(Call::Remove, THOUSAND, Place::Utc),
+        Calls(Call::Remove, THOUSAND, JobZone::Utc),
         "a job that goes from 1,000, UTC",
     ),
     (
-        Group::Scheduler(Call::WakeMany, HUNDRED_THOUSAND, Place::Utc),
+        Calls(Call::WakeMany, HUNDRED_THOUSAND, JobZone::Utc),
         "wake-up of 100,000 jobs, 4 in 100 run, UTC",
     ),
     (
-        Group::Scheduler(Call::WakeOne, HUNDRED_THOUSAND, Place::Utc),
+        Calls(Call::WakeOne, HUNDRED_THOUSAND, JobZone::Utc),
         "wake-up of 100,000 jobs, one runs, UTC",
     ),
     (
-        Group::Scheduler(Call::Add, HUNDRED_THOUSAND, Place::Utc),
+        Calls(Call::Add, HUNDRED_THOUSAND, JobZone::Utc),
         "a job that comes to 100,000, UTC",
     ),
     (
-        Group::Scheduler(Call::Remove, HUNDRED_THOUSAND, Place::Utc),
+        Calls(Call::Remove, HUNDRED_THOUSAND, JobZone::Utc),
         "a job that goes from 100,000, UTC",
     ),
     (
-        Group::Scheduler(Call::WakeMany, THOUSAND, Place::Paris),
+        Calls(Call::WakeMany, THOUSAND, JobZone::Paris),
         "wake-up of 1,000 jobs, 4 in 100 run, Paris",
     ),
     (
-        Group::Scheduler(Call::WakeOne, THOUSAND, Place::Paris),
+        Calls(Call::WakeOne, THOUSAND, JobZone::Paris),
         "wake-up of 1,000 jobs, one runs, Paris",
     ),
     (
-        Group::Scheduler(Call::Add, THOUSAND, Place::Paris),
+        Calls(Call::Add, THOUSAND, JobZone::Paris),
         "a job that comes to 1,000, Paris",
     ),
     (
-        Group::Scheduler(Call::Remove, THOUSAND, Place::Paris),
+        Calls(Call::Remove, THOUSAND, JobZone::Paris),
         "a job that goes from 1,000, Paris",
     ),
     (
-        Group::Scheduler(Call::WakeMany, HUNDRED_THOUSAND, Place::Paris),
+        Calls(Call::WakeMany, HUNDRED_THOUSAND, JobZone::Paris),
         "wake-up of 100,000 jobs, 4 in 100 run, Paris",
     ),
     (
-        Group::Scheduler(Call::WakeOne, HUNDRED_THOUSAND, Place::Paris),
+        Calls(Call::WakeOne, HUNDRED_THOUSAND, JobZone::Paris),
         "wake-up of 100,000 jobs, one runs, Paris",
     ),
     (
-        Group::Scheduler(Call::Add, HUNDRED_THOUSAND, Place::Paris),
+        Calls(Call::Add, HUNDRED_THOUSAND, JobZone::Paris),
         "a job that comes to 100,000, Paris",
     ),
     (
-        Group::Scheduler(Call::Remove, HUNDRED_THOUSAND, Place::Paris),
+        Calls(Call::Remove, HUNDRED_THOUSAND, JobZone::Paris),
         "a job that goes from 100,000, Paris",
     ),
 ];
 
 // Where the scheduler's jobs start.
-fn start_in<'t>(times: &Times<'t>, place: Place) -> TableTime<'t> {
-    match place {
-        Place::Utc => times.in_utc,
-        Place::Paris => times.in_paris,
+fn start_in<'t>(times: &Times<'t>, zone: JobZone) -> TableTime<'t> {
+    match zone {
+        JobZone::Utc => times.in_utc,
+        JobZone::Paris => times.in_paris,
     }
 }
 
@@ -219,8 +229,12 @@ impl Group {
             Group::DescribeSwedish => describe(jobs, Swedish),
             Group::Compare => compare(jobs),
             Group::Copy => copy(jobs),
-            Group::Scheduler(call, jobs, place) => {
-                scheduler::pass(alloc, call, jobs, start_in(&subjects.times, place), watch)
+            Group::Scheduler(JobForm::Whole, Calls(call, jobs, zone)) => {
+                scheduler::pass::<Cron>(alloc, call, jobs, start_in(&subjects.times, zone), watch)
+            }
+            Group::Scheduler(JobForm::Compact, Calls(call, jobs, zone)) => {
+                let start = start_in(&subjects.times, zone);
+                scheduler::pass::<CompactCron>(alloc, call, jobs, start, watch)
             }
             _ => self.search(subjects, watch),
         }

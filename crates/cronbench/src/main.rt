@@ -4,13 +4,16 @@
 //! has the sum of each group's answers, the same in every run. Standard error has the nanoseconds of processor time of one
 //! call, in the fastest round. If standard input has no pattern, standard error says so, and nothing is measured.
 //!
-//! With the word `memory` it answers each line of standard input, which is a case of calls that ask for memory.
+//! With the word `memory` it answers each line of standard input, which is a case of calls that ask for memory. With `keep`,
+//! `whole` or `compact` and a number, a scheduler keeps so many jobs of that form, so that their memory can be counted.
 #![tactic(auto)]
 
 mod answers;
+mod forms;
 mod given;
 mod group;
 mod hostile;
+mod keep;
 mod many;
 mod measure;
 mod memory;
@@ -22,8 +25,10 @@ mod subjects;
 mod watch;
 
 use croner_rows::{Result, status};
+use forms::JobForm;
 use given::Asked;
-use group::GROUPS;
+use group::{GROUPS, Group, SCHEDULERS};
+use keep::keep_jobs;
 use measure::{Measured, measure};
 use memory::answer_cases;
 use paris::Clocks;
@@ -37,17 +42,20 @@ const MISUSED: u8 = 2;
 
 const NO_PATTERN: &str = "No pattern stands on standard input: nothing is measured.";
 
-const USAGE: &str = "usage: cronbench [ROUNDS] < PATTERNS\n       cronbench memory < CASES";
+const USAGE: &str = "usage: cronbench [ROUNDS] < PATTERNS
+       cronbench memory < CASES
+       cronbench keep whole|compact JOBS";
 
-fn show(rt: &HostRuntime, group: &str, measured: Measured) -> io::Result<()> {
+// Shows what was measured of a group, whose name is `name` and then `mark`.
+fn show(rt: &HostRuntime, name: &str, mark: &str, measured: Measured) -> io::Result<()> {
     let (count, sum) = (measured.answers.count, measured.answers.sum);
-    println!(rt; "{group}: {count} answers, sum {sum}")?;
+    println!(rt; "{name}{mark}: {count} answers, sum {sum}")?;
     match measured.per_call() {
         Some(time) => {
             let nanoseconds = time.as_nanos();
-            eprintln!(rt; "{group}: {nanoseconds} ns")
+            eprintln!(rt; "{name}{mark}: {nanoseconds} ns")
         }
-        None => eprintln!(rt; "{group}: no call"),
+        None => eprintln!(rt; "{name}{mark}: no call"),
     }
 }
 
@@ -71,9 +79,25 @@ fn bench_by(rt: &HostRuntime, patterns: Vec<String>, rounds: u32) -> Result<bool
 fn bench_on(rt: &HostRuntime, subjects: &Subjects<'_>, rounds: u32) -> Result<bool> {
     for (group, name) in GROUPS {
         let measured = measure(rt, group, name, subjects, rounds)?;
-        show(rt, name, measured)?;
+        show(rt, name, "", measured)?;
     }
+    bench_schedulers(rt, JobForm::Whole, subjects, rounds)?;
+    bench_schedulers(rt, JobForm::Compact, subjects, rounds)?;
     Ok(true)
+}
+
+// Measures the calls of schedulers whose jobs have a form.
+fn bench_schedulers(
+    rt: &HostRuntime,
+    form: JobForm,
+    subjects: &Subjects<'_>,
+    rounds: u32,
+) -> Result<()> {
+    for (calls, name) in SCHEDULERS {
+        let measured = measure(rt, Group::Scheduler(form, calls), name, subjects, rounds)?;
+        show(rt, name, form.mark(), measured)?;
+    }
+    Ok(())
 }
 
 // What the words ask for. `None` where they don't have their form.
@@ -89,6 +113,7 @@ fn main(rt: HostRuntime) -> io::Result<ExitCode> {
     match read_words(&rt)? {
         Some(Asked::Rounds(rounds)) => status(&rt, bench(&rt, rounds)),
         Some(Asked::Memory) => status(&rt, answer_cases(&rt)),
+        Some(Asked::Keep(form, jobs)) => status(&rt, keep_jobs(&rt, form, jobs)),
         None => {
             eprintln!(rt; "{USAGE}")?;
             Ok(ExitCode::from(MISUSED))

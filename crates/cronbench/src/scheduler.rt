@@ -1,8 +1,9 @@
 //! Many jobs in a scheduler: the time of a wake-up, of adding a job, and of removing one.
 
 use crate::answers::Answers;
+use crate::forms::SchedulerJob;
 use crate::watch::Watch;
-use croner::Cron;
+use croner::Recurring;
 use croner::errors::CronError;
 use croner::time::table::TableTime;
 use croner_scheduler::{AddError, Scheduler};
@@ -32,18 +33,18 @@ const WEEK: u32 = 604_800;
 /// How many minutes apart the times of day of two added jobs are.
 const MINUTES_APART: u32 = 22;
 
-type Jobs<'t> = Scheduler<Cron, TableTime<'t>>;
+type Jobs<'t, J> = Scheduler<J, TableTime<'t>>;
 
 /// Makes the calls on a number of jobs that were added at a start. The answer of a wake-up is the sum of the ids of the jobs that ran,
 /// each times its second, modulo 2^64. That of another call is the second of the next wake-up.
-pub fn pass(
+pub fn pass<'t, J: SchedulerJob + Recurring<TableTime<'t>>>(
     alloc: Global,
     call: Call,
     jobs: u32,
-    start: TableTime<'_>,
+    start: TableTime<'t>,
     watch: &mut Watch<'_>,
 ) -> Result<Answers, CronError> {
-    let mut scheduler = scheduler_of(alloc, call, jobs, start)?;
+    let mut scheduler: Jobs<'t, J> = scheduler_of(alloc, call, jobs, start)?;
     match call {
         Call::WakeMany => wake(&mut scheduler, WAKE_UPS, watch),
         Call::WakeOne => wake(&mut scheduler, CALLS, watch),
@@ -52,12 +53,13 @@ pub fn pass(
     }
 }
 
-fn scheduler_of<'t>(
+/// A scheduler of so many jobs, as a call of its wants them, added at a start.
+pub fn scheduler_of<'t, J: SchedulerJob + Recurring<TableTime<'t>>>(
     alloc: Global,
     call: Call,
     jobs: u32,
     start: TableTime<'t>,
-) -> Result<Jobs<'t>, CronError> {
+) -> Result<Jobs<'t, J>, CronError> {
     let mut scheduler = Scheduler::new(alloc);
     let apart = WEEK.checked_div(jobs).unwrap_or(0);
     for job in 0..jobs {
@@ -65,7 +67,7 @@ fn scheduler_of<'t>(
             Call::WakeMany => hourly(alloc, job)?,
             Call::WakeOne | Call::Add | Call::Remove => weekly(alloc, job.saturating_mul(apart))?,
         };
-        keep(&mut scheduler, Cron::from_str(alloc, text.as_str())?, start)?;
+        keep(&mut scheduler, J::read(alloc, text.as_str())?, start)?;
     }
     Ok(scheduler)
 }
@@ -82,13 +84,17 @@ fn weekly(alloc: Global, second: u32) -> Result<String, AllocError> {
 }
 
 // A job that comes, and runs at a minute of the day.
-fn daily(alloc: Global, job: u32) -> Result<Cron, CronError> {
+fn daily<J: SchedulerJob>(alloc: Global, job: u32) -> Result<J, CronError> {
     let minute = job.saturating_mul(MINUTES_APART);
     let text = format!(in alloc; "{} {} * * *", minute % 60, minute / 60)?;
-    Cron::from_str(alloc, text.as_str())
+    J::read(alloc, text.as_str())
 }
 
-fn keep<'t>(scheduler: &mut Jobs<'t>, job: Cron, start: TableTime<'t>) -> Result<(), CronError> {
+fn keep<'t, J: SchedulerJob + Recurring<TableTime<'t>>>(
+    scheduler: &mut Jobs<'t, J>,
+    job: J,
+    start: TableTime<'t>,
+) -> Result<(), CronError> {
     match scheduler.add(job, start) {
         Ok(_) => Ok(()),
         Err(refused) => Err(error_of(AddError::from(refused))),
@@ -105,8 +111,8 @@ fn error_of(error: AddError) -> CronError {
     }
 }
 
-fn wake(
-    scheduler: &mut Jobs<'_>,
+fn wake<'t, J: Recurring<TableTime<'t>>>(
+    scheduler: &mut Jobs<'t, J>,
     wake_ups: u32,
     watch: &mut Watch<'_>,
 ) -> Result<Answers, CronError> {
@@ -122,7 +128,10 @@ fn wake(
 }
 
 // Takes all that is due, and gives the sum of it.
-fn take_all(scheduler: &mut Jobs<'_>, now: i64) -> Result<i64, AllocError> {
+fn take_all<'t, J: Recurring<TableTime<'t>>>(
+    scheduler: &mut Jobs<'t, J>,
+    now: i64,
+) -> Result<i64, AllocError> {
     let mut sum: i64 = 0;
     for _ in 0..u64::MAX {
         match scheduler.take_due(now)? {
@@ -136,15 +145,15 @@ fn take_all(scheduler: &mut Jobs<'_>, now: i64) -> Result<i64, AllocError> {
     Ok(sum)
 }
 
-fn add<'t>(
+fn add<'t, J: SchedulerJob + Recurring<TableTime<'t>>>(
     alloc: Global,
-    scheduler: &mut Jobs<'t>,
+    scheduler: &mut Jobs<'t, J>,
     start: TableTime<'t>,
     watch: &mut Watch<'_>,
 ) -> Result<Answers, CronError> {
     let mut jobs = Vec::new(alloc);
     for job in 0..CALLS {
-        jobs.push(daily(alloc, job)?)?;
+        jobs.push(daily::<J>(alloc, job)?)?;
     }
     let mut answers = Answers::default();
     watch.restart();
@@ -156,8 +165,8 @@ fn add<'t>(
     Ok(answers)
 }
 
-fn remove(
-    scheduler: &mut Jobs<'_>,
+fn remove<'t, J: SchedulerJob + Recurring<TableTime<'t>>>(
+    scheduler: &mut Jobs<'t, J>,
     apart: u32,
     watch: &mut Watch<'_>,
 ) -> Result<Answers, CronError> {

@@ -50,8 +50,8 @@ use std::{env, fs, io};
 
 const MISUSED: u8 = 2;
 
-/// What answers call the zone whose clock is shown besides.
-const SECOND_ZONE: &str = "the second zone";
+/// The word of a call for the zone of a machine.
+pub(crate) const LOCAL: &str = "local";
 
 /// The folder in which this machine's files stand.
 const THIS_MACHINE: &str = "/";
@@ -113,7 +113,7 @@ fn check_in_zone(rt: &HostRuntime, call: &Call<'_>) -> Result<u8, Problem> {
         return check_in_ruled_zone(rt, call, zone);
     }
     let zones = TimeZoneDatabase::from_env(rt).map_err(Problem::Zone)?;
-    if call.zone == "local" {
+    if call.zone == LOCAL {
         if call.root.is_some() {
             return check_in_zone_of_machine(rt, call, &zones);
         }
@@ -255,7 +255,7 @@ fn check(rt: &HostRuntime, call: &Call<'_>, zone: TimeZone<'_>) -> Result<u8, Pr
         return check_in(rt, call, zone, Some(other));
     }
     let zones = TimeZoneDatabase::from_env(rt).map_err(Problem::Zone)?;
-    if word == "local" {
+    if word == LOCAL {
         let system = SystemTimeZone::read(rt).map_err(Problem::Zone)?;
         let other = system.time_zone(&zones).map_err(Problem::Zone)?;
         return check_in(rt, call, zone, Some(other));
@@ -317,9 +317,9 @@ fn check_in<'z>(
         allowed.as_slice(),
         known_users(&users),
     );
-    let shared = Shared::of(zone, "", settings.of(Dialect::User));
+    let shared = Shared::of(zone, settings.of(Dialect::User));
     let shared = match other_zone {
-        Some(other) => shared.with_other_zone(other, SECOND_ZONE),
+        Some(other) => shared.with_other_zone(other),
         None => shared,
     };
     let kinds = TermsByKind::new(rt.alloc(), &settings, &shared);

@@ -1,11 +1,11 @@
 //! A plan, as texts or as a file.
 
 use crate::saved::save;
-use crate::{Named, tell_in};
+use crate::{LOCAL, Named, tell_in};
 use croncheck_command::problem::Problem;
 use croncheck_command::words::Call;
 use croncheck_planner::planner::page::PagePlanner;
-use croncheck_planner::planner::{FileAsked, PlanAsked, Planner};
+use croncheck_planner::planner::{ClockNames, FileAsked, PlanAsked, Planner};
 use croncheck_reading::files::tell_files;
 use croncheck_reading::form::Form;
 use croncheck_reading::progress::TermsByKind;
@@ -28,6 +28,11 @@ const UNREAD: u8 = 3;
 /// What the calendar of a plan is called, and its page.
 const TITLE: &str = "What cron starts";
 
+/// What the zone of this machine is called, and that of the machine that is checked, where it has no name.
+const THIS_ZONE: &str = "this machine";
+
+const CHECKED_ZONE: &str = "that machine";
+
 /// Plans the jobs of the files: as texts, unless a file is asked for.
 pub fn plan(
     rt: &HostRuntime,
@@ -43,9 +48,79 @@ pub fn plan(
         Some(FileAsked::Page) => write_page(rt, call, kinds, sources, asked),
         Some(FileAsked::Json) => write_json(rt, call, kinds, sources, asked),
         None => {
-            let planner = Planner::new(rt.alloc(), asked);
+            let planner = planner_of(rt, call, kinds, asked)?;
             tell_in(rt, kinds, sources, planner).map_err(Problem::Unwritten)
         }
+    }
+}
+
+// A planner of what is asked, on the clocks of the call's zones.
+fn planner_of(
+    rt: &HostRuntime,
+    call: &Call<'_>,
+    kinds: &TermsByKind<'_, '_>,
+    asked: PlanAsked,
+) -> Result<Planner, Problem> {
+    let names = names_of(rt, call, kinds)?;
+    Ok(Planner::new(rt.alloc(), asked, names))
+}
+
+// What the zones are called on whose clocks a plan is shown.
+fn names_of(
+    rt: &HostRuntime,
+    call: &Call<'_>,
+    kinds: &TermsByKind<'_, '_>,
+) -> Result<ClockNames, Problem> {
+    let terms = kinds.of(Dialect::User);
+    let Ok(names) = clock_names(rt, call, terms.shared) else {
+        return Err(Problem::OutOfMemory);
+    };
+    Ok(names)
+}
+
+fn clock_names(
+    rt: &HostRuntime,
+    call: &Call<'_>,
+    shared: &Shared<'_>,
+) -> Result<ClockNames, AllocError> {
+    let zone = name_of_zone(rt, call, shared)?;
+    let other = name_of_other_zone(rt, call, shared)?;
+    Ok(ClockNames { zone, other })
+}
+
+// What the zone is called whose clock is shown: by its name, else as the call has it, a machine's by the machine.
+fn name_of_zone(
+    rt: &HostRuntime,
+    call: &Call<'_>,
+    shared: &Shared<'_>,
+) -> Result<String, AllocError> {
+    if let Some(name) = shared.zone.iana_name() {
+        return String::from_str(rt.alloc(), name);
+    }
+    if call.zone != LOCAL {
+        return String::from_str(rt.alloc(), call.zone);
+    }
+    if call.root.is_some() {
+        return String::from_str(rt.alloc(), CHECKED_ZONE);
+    }
+    String::from_str(rt.alloc(), THIS_ZONE)
+}
+
+// The same of the zone that is shown besides; empty where there is none.
+fn name_of_other_zone(
+    rt: &HostRuntime,
+    call: &Call<'_>,
+    shared: &Shared<'_>,
+) -> Result<String, AllocError> {
+    let Some(zone) = &shared.other_zone else {
+        return Ok(String::new(rt.alloc()));
+    };
+    if let Some(name) = zone.iana_name() {
+        return String::from_str(rt.alloc(), name);
+    }
+    match call.show_zone {
+        Some(word) if word != LOCAL => String::from_str(rt.alloc(), word),
+        Some(_) | None => String::from_str(rt.alloc(), THIS_ZONE),
     }
 }
 
@@ -87,7 +162,7 @@ fn write_calendar(
     asked: PlanAsked,
     lasts: Option<u64>,
 ) -> Result<u8, Problem> {
-    let planner = Planner::new(rt.alloc(), asked);
+    let planner = planner_of(rt, call, kinds, asked)?;
     let taken = take_files(rt, kinds, sources, planner)?;
     let now = Timestamp::now(rt).map_err(Problem::Now)?;
     let Some(stamp) = CivilDateTime::of_wall_second(now.as_second()) else {
@@ -118,7 +193,8 @@ fn write_page(
     sources: Named<'_>,
     asked: PlanAsked,
 ) -> Result<u8, Problem> {
-    let planner = PagePlanner::new(rt.alloc(), asked);
+    let names = names_of(rt, call, kinds)?;
+    let planner = PagePlanner::new(rt.alloc(), asked, names);
     let taken = take_files(rt, kinds, sources, planner)?;
     let Ok(told) = str::from_utf8(taken.sink.out().as_slice()) else {
         return Err(Problem::Unwritten(io::Error::from(ErrorKind::InvalidData)));
@@ -127,12 +203,7 @@ fn write_page(
         return Err(Problem::OutOfMemory);
     };
     let terms = kinds.of(Dialect::User);
-    let zone = zone_word(call, terms.shared);
-    let Ok(text) = taken
-        .sink
-        .form()
-        .page(&terms, zone, TITLE, ignored.as_slice())
-    else {
+    let Ok(text) = taken.sink.form().page(&terms, TITLE, ignored.as_slice()) else {
         return Err(Problem::OutOfMemory);
     };
     write_text(rt, call, text.as_str())?;
@@ -158,20 +229,14 @@ fn write_json(
     sources: Named<'_>,
     asked: PlanAsked,
 ) -> Result<u8, Problem> {
-    let planner = Planner::new(rt.alloc(), asked);
+    let planner = planner_of(rt, call, kinds, asked)?;
     let taken = take_files(rt, kinds, sources, planner)?;
     let terms = kinds.of(Dialect::User);
-    let zone = zone_word(call, terms.shared);
-    let Ok(text) = taken.sink.form().json(&terms, zone) else {
+    let Ok(text) = taken.sink.form().json(&terms) else {
         return Err(Problem::OutOfMemory);
     };
     write_text(rt, call, text.as_str())?;
     Ok(taken.status)
-}
-
-// What a zone is called: by its name, or as the call has it.
-fn zone_word<'c>(call: &'c Call<'_>, shared: &'c Shared<'_>) -> &'c str {
-    shared.zone.iana_name().unwrap_or(call.zone)
 }
 
 // Writes the text of a file: to that which the call names, and else to standard output.

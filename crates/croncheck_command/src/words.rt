@@ -81,7 +81,8 @@ pub struct Call<'w> {
     pub verb: Verb,
     /// `local`, a POSIX rule, or the name of a zone. UTC with [`Verb::Describe`].
     pub zone: &'w str,
-    /// The same of the zone whose clock is shown too, if there is one. Not with [`Verb::Check`] and [`Verb::Describe`], and in texts alone.
+    /// The same of the zone whose clock is shown too, if there is one. Not with [`Verb::Check`] and [`Verb::Describe`], and in texts alone: with a
+    /// file of a plan there is none.
     pub show_zone: Option<&'w str>,
     /// Where runs are listed from.
     pub from: Moment,

@@ -13,7 +13,7 @@ use croncheck_findings::findings::{Finding, findings_of};
 use croncheck_output::output::Output;
 use croncheck_reading::form::Form;
 use croncheck_reading::progress::{Line, Progress, Terms};
-use croncheck_report::place::Place;
+use croncheck_report::location::Location;
 use std::io;
 use std::io::Write;
 
@@ -92,7 +92,7 @@ fn write_file<W: Write>(
         progress.lines,
         &progress.file,
     )?;
-    let place = Place {
+    let place = Location {
         file: progress.file.name(),
         line: last_line(progress.lines),
     };
@@ -103,7 +103,7 @@ fn write_file<W: Write>(
 fn write_lines<W: Write>(
     terms: &Terms<'_, '_>,
     style: Style,
-    place: Place<'_>,
+    place: Location<'_>,
     found: &[Finding],
     output: &mut Output<W>,
 ) -> io::Result<()>
@@ -118,7 +118,7 @@ fn write_lines<W: Write>(
 fn write_line<W: Write>(
     terms: &Terms<'_, '_>,
     style: Style,
-    place: Place<'_>,
+    place: Location<'_>,
     finding: &Finding,
     output: &mut Output<W>,
 ) -> io::Result<()>

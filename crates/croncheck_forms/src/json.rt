@@ -12,7 +12,7 @@ use croncheck_changes::changes::meetings::{Meetings, Met};
 use croncheck_findings::findings::Finding;
 use croncheck_often::often::{Often, Reach};
 use croncheck_output::escaped::exact_text;
-use croncheck_report::place::Place;
+use croncheck_report::location::Location;
 use croncheck_report::report::{JobReport, Report};
 use croncheck_report::shared::Shared;
 use croncheck_report::told::Told;
@@ -60,7 +60,7 @@ pub(crate) fn object_of(
     alloc: Global,
     shared: &Shared<'_>,
     kind: &str,
-    place: Place<'_>,
+    place: Location<'_>,
     report: &Report<'_, '_>,
     found: &[Finding],
 ) -> Result<Value, AllocError>

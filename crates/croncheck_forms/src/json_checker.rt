@@ -10,7 +10,7 @@ use croncheck_findings::findings::{Finding, findings_of};
 use croncheck_output::output::Output;
 use croncheck_reading::form::Form;
 use croncheck_reading::progress::{Line, Progress, Terms};
-use croncheck_report::place::Place;
+use croncheck_report::location::Location;
 use croncheck_report::report::Report;
 use std::io;
 use std::io::Write;
@@ -71,7 +71,7 @@ impl Form for JsonChecker {
 fn write_if_found<W: Write>(
     terms: &Terms<'_, '_>,
     kind: &str,
-    place: Place<'_>,
+    place: Location<'_>,
     report: &Report<'_, '_>,
     found: &[Finding],
     output: &mut Output<W>,

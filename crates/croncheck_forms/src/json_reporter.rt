@@ -11,7 +11,7 @@ use croncheck_findings::findings::{Finding, findings_of};
 use croncheck_output::output::Output;
 use croncheck_reading::form::Form;
 use croncheck_reading::progress::{Line, Progress, Terms};
-use croncheck_report::place::Place;
+use croncheck_report::location::Location;
 use croncheck_report::report::Report;
 use std::io;
 use std::io::Write;
@@ -83,7 +83,7 @@ pub(crate) fn write_file<W: Write>(
         progress.lines,
         &progress.file,
     )?;
-    let place = Place {
+    let place = Location {
         file: progress.file.name(),
         line: last_line(progress.lines),
     };
@@ -101,7 +101,7 @@ pub(crate) fn write_file<W: Write>(
 pub(crate) fn write_object<W: Write>(
     terms: &Terms<'_, '_>,
     kind: &str,
-    place: Place<'_>,
+    place: Location<'_>,
     report: &Report<'_, '_>,
     found: &[Finding],
     output: &mut Output<W>,

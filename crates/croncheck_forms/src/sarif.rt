@@ -17,7 +17,7 @@ use croncheck_findings::findings::{Finding, findings_of};
 use croncheck_output::output::Output;
 use croncheck_reading::form::Form;
 use croncheck_reading::progress::{Line, Progress, Terms};
-use croncheck_report::place::Place;
+use croncheck_report::location::Location;
 use head::head_text;
 use result::result_text;
 use rules::Rule;
@@ -114,7 +114,7 @@ fn write_file<W: Write>(
         progress.lines,
         &progress.file,
     )?;
-    let place = Place {
+    let place = Location {
         file: progress.file.name(),
         line: last_line(progress.lines),
     };
@@ -125,7 +125,7 @@ fn write_file<W: Write>(
 fn write_results<W: Write>(
     terms: &Terms<'_, '_>,
     head: &str,
-    place: Place<'_>,
+    place: Location<'_>,
     line: Option<&[u8]>,
     found: &[Finding],
     output: &mut Output<W>,
@@ -142,7 +142,7 @@ fn write_results<W: Write>(
 fn write_result<W: Write>(
     terms: &Terms<'_, '_>,
     head: &str,
-    place: Place<'_>,
+    place: Location<'_>,
     line: Option<&[u8]>,
     finding: &Finding,
     output: &mut Output<W>,

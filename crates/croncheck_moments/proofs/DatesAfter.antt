@@ -1,5 +1,5 @@
 -- The date that a clock shows, and the ends of its week and its month.
-use Rattle.std.proofs.Common.{◌≡◌, ◌⊎◌, inl, inr, ℤ, pos, ◌+ℤ◌, ◌*ℤ◌, ◌≤ℤ◌, ◌<ℤ◌, Option, None, Some, arith, refl, sym}
+use Rattle.std.proofs.Common.{◌≡◌, ℤ, pos, ◌+ℤ◌, ◌*ℤ◌, ◌≤ℤ◌, Option, None, Some, arith, sym}
 use Rattle.std.proofs.lemmas.Int.{ints}
 use Rattle.jiff.proofs.Family.{civil_nanos-parts}
 use Rattle.jiff_core.proofs.DateTimeLemmas.{time_nanos_bound}
@@ -11,7 +11,7 @@ use Rattle.jiff_core.specs.declared.civil.datetime.DateTime.{DateTime}
 use Rattle.jiff_tz.specs.Zone.{offset_at}
 use Rattle.jiff_tz.specs.declared.timezone.TimeZone.{TimeZone}
 use Rattle.croncheck_runs.specs.Clock.{IsHeldSecond}
-use Rattle.croncheck_moments.specs.Moment.{IsDaysAfter, IsEndOfSixth, IsEndOfMonth, IsEndOfWeek, IsLastOf, IsLastOfMonth, ShowsDate}
+use Rattle.croncheck_moments.specs.Moment.{IsDaysAfter, ShowsDate}
 
 -- a second is held whose nanoseconds are those of a timestamp
 held_second : (second : ℤ) → IsTimestampNanos (second *ℤ pos 1_000_000_000) → IsHeldSecond second

@@ -1,5 +1,6 @@
 mod Dates
 mod DatesAfter
+mod ExamplesDates
 mod ExamplesZone
 mod Moments
 mod ZoneWords

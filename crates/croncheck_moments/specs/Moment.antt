@@ -205,11 +205,11 @@ abbrev pub IsDaysAfter : Date → ℤ → Option Date → Type 0
 IsDaysAfter date days None = last_epoch_day <ℤ (epoch_day date +ℤ days)
 IsDaysAfter date days (Some later) = epoch_day later ≡ epoch_day date +ℤ days
 
--- the last second of the sixth date after a date
+-- the last second before the seventh date after a date, also where the clock skips the sixth
 abbrev pub IsEndOfSixth : TimeZone → Date → Option ℤ → Type 0
 IsEndOfSixth tz today last =
     ((last ≡ None) × (last_epoch_day <ℤ (epoch_day today +ℤ pos 6)))
-    ⊎ ((date : Date) × (epoch_day date ≡ epoch_day today +ℤ pos 6) × IsLastOf tz date last)
+    ⊎ ((date : Date) × (epoch_day date ≡ epoch_day today +ℤ pos 6) × IsLastBeforeNext tz date last)
 
 -- of the one that the clock shows at a second
 abbrev pub IsEndOfWeek : TimeZone → ℤ → Option ℤ → Type 0
@@ -220,8 +220,8 @@ IsEndOfWeek tz second last =
 abbrev pub IsLastOfMonth : Date → Date → Type 0
 IsLastOfMonth today date = IsYmd today.year (pos today.month) (pos (month_length today)) date
 
--- the last second of the month of the date that the clock shows at a second
+-- the last second before the next month, after the date that the clock shows at a second, also where the clock skips the last date
 abbrev pub IsEndOfMonth : TimeZone → ℤ → Option ℤ → Type 0
 IsEndOfMonth tz second last =
     ((last ≡ None) × ¬ (IsHeldSecond second))
-    ⊎ ((today : Date) × (date : Date) × ShowsDate tz today second × IsLastOfMonth today date × IsLastOf tz date last)
+    ⊎ ((today : Date) × (date : Date) × ShowsDate tz today second × IsLastOfMonth today date × IsLastBeforeNext tz date last)

@@ -45,7 +45,7 @@ pub(crate) fn last_second_of(date: Date, zone: &TimeZone<'_>) -> Option<i64>
 }
 
 // The second before the date after this one begins.
-fn last_before_next(date: Date, zone: &TimeZone<'_>) -> Option<i64>
+pub(crate) fn last_before_next(date: Date, zone: &TimeZone<'_>) -> Option<i64>
     ensures { IsLastBeforeNext (plain_zone zone.now) date result }
 {
     match date.tomorrow() {

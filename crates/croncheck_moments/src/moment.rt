@@ -12,7 +12,7 @@ ghost use Rattle.jiff_core.specs.declared.Offset.{Offset};
 ghost use Rattle.jiff_tz.specs.Ambiguous.{IsInstantAt, instant_of};
 ghost use Rattle.croncheck_moments.specs.Moment.{IsDateAt, IsDaysAfter, IsEndOfMonth, IsEndOfSixth, IsEndOfWeek, ShowsDate, moment_text, IsNamed, IsRead, IsReadShown, IsShownAt, IsShownIn, IsSecondOf, IsLastUpTo, start_from};
 
-use crate::date::{first_second_of, last_second_of, shows_date};
+use crate::date::{first_second_of, last_before_next, last_second_of, shows_date};
 use jiff::civil::{Date, DateTime};
 use jiff::tz::TimeZone;
 use jiff::{Error, Timestamp};
@@ -211,8 +211,8 @@ pub fn date_at(zone: &TimeZone<'_>, second: i64) -> Option<Date>
     }
 }
 
-/// The last second of the sixth date after the one that a zone's clock shows at a second. There is none where `jiff` holds no such
-/// second or date, or the clock doesn't show where the date after that begins.
+/// The last second before the seventh date after the one that a zone's clock shows at a second: that of the sixth, unless the clock skips it.
+/// There is none where `jiff` holds no such second or date, or nothing around the begin of the seventh.
 pub fn last_of_week(zone: &TimeZone<'_>, second: i64) -> Option<i64>
     ensures { IsEndOfWeek (plain_zone zone.now) second result }
 {
@@ -222,12 +222,12 @@ pub fn last_of_week(zone: &TimeZone<'_>, second: i64) -> Option<i64>
     }
 }
 
-// The last second of the sixth date after one.
+// The last second before the seventh date after one.
 fn end_of_sixth_after(zone: &TimeZone<'_>, today: Date) -> Option<i64>
     ensures { IsEndOfSixth (plain_zone zone.now) today result }
 {
     match sixth_date_after(today) {
-        Some(sixth) => last_second_of(sixth, zone),
+        Some(sixth) => last_before_next(sixth, zone),
         None => None,
     }
 }
@@ -272,13 +272,13 @@ fn date_after(date: Date) -> Option<Date>
     }
 }
 
-/// The last second of the month of the date that a zone's clock shows at a second. There is none where `jiff` holds no such second,
-/// or the clock doesn't show where the next month begins.
+/// The last second before the month that comes after the date which a zone's clock shows at a second, also where the clock skips the last
+/// date. There is none where `jiff` holds no such second, or nothing around the begin of that month.
 pub fn last_of_month(zone: &TimeZone<'_>, second: i64) -> Option<i64>
     ensures { IsEndOfMonth (plain_zone zone.now) second result }
 {
     match date_at(zone, second) {
-        Some(today) => last_second_of(today.last_of_month(), zone),
+        Some(today) => last_before_next(today.last_of_month(), zone),
         None => None,
     }
 }

@@ -7,6 +7,7 @@ use Rattle.cronplan.specs.declared.start.JobStart.{JobStart}
 use Rattle.croncheck_planner.specs.declared.planner.PlanAsked.{PlanAsked}
 use Rattle.croncheck_runs.specs.declared.runs.Listing.TheVariants as listings
 use Rattle.croncheck_planner.specs.Plan.{first_after, end_after, whole_end, end_up_to, starts_within}
+use Rattle.croncheck_planner.specs.PlanAnswers.{clock_head, unfollowed_text}
 use Rattle.croncheck_planner.specs.PlanList.{over_text, more_text, whose_by_kinds, line_text}
 use Rattle.croncheck_planner.specs.Planner.{label_text, above_at}
 use Rattle.croncheck_output.specs.Escaped.{shown_from}
@@ -135,3 +136,13 @@ none_up_to_a_second = refl
 
 none_asked : more_text (listings.Count 0) true ≡ []
 none_asked = refl
+
+-- ---- answers
+
+above_answers : clock_head (codes "Europe/Paris") ≡ codes "on the clock of Europe/Paris:\n"
+unfolding clock_head
+above_answers = refl
+
+in_place_of_answers : unfollowed_text (codes "Europe/Paris") ≡ codes "the clock of Europe/Paris isn't followed in these days\n"
+unfolding unfollowed_text
+in_place_of_answers = refl

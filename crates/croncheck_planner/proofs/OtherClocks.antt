@@ -6,8 +6,9 @@ use Rattle.croner_base.specs.ZoneTable.{IsCalmWindow, IsNoTable}
 use Rattle.croner_base.specs.declared.errors.CronError.{CronError}
 use Rattle.croner_base.specs.declared.errors.CronError.TheVariants.{InvalidTime, OutOfMemory}
 use Rattle.jiff_tz.specs.declared.timezone.TimeZone.{TimeZone}
+use Rattle.cronplan.proofs.SpanSeconds.{span_at}
 
-pub ruleset signed = (ints, to_z-of_z)
+pub ruleset before_span = (ints, to_z-of_z, span_at)
 
 -- what follows from a property of an answer holds of it
 pub each_ok : {T E : Type 0} (P Q : T → Type 0) (r : Result T E) → ((x : T) → P x → Q x) → IfOk r P → IfOk r Q

@@ -36,14 +36,17 @@ pub record Steps (old : State Planner) (y : LineRead) (here : Stand) (title : Op
   pub begun_schedules : begun.schedules ≡ old.form.schedules
   pub begun_jobs : begun.jobs ≡ old.form.jobs
   pub begun_asked : begun.asked ≡ old.form.asked
+  pub begun_names : begun.names ≡ old.form.names
   pub here_is : here ≡ at_line y.is y.is_fed old.stand
   pub title_is : title ≡ heading y.is y.bytes
   pub taken_above : taken.above ≡ begun.above
   pub taken_asked : taken.asked ≡ begun.asked
+  pub taken_names : taken.names ≡ begun.names
   pub new_above : new.form.above.items ≡ unwrap_or title taken.above.items
   pub new_schedules : new.form.schedules ≡ taken.schedules
   pub new_jobs : new.form.jobs ≡ taken.jobs
   pub new_asked : new.form.asked ≡ taken.asked
+  pub new_names : new.form.names ≡ taken.names
 
 pub takes_line : (s : Settings) (old : State Planner) (y : LineRead) (entry : Entry) (found : Outcome) (here : Stand) (title : Option (List ℕ)) (begun taken : Planner) (new : State Planner)
     → IsEntryOf y entry → IsOutcome s.parser y.is found → Steps old y here title begun taken new
@@ -61,4 +64,5 @@ takes_line s old y entry found here title begun taken new is read steps plans = 
       ∙ ap (λ (above : Vec ℕ Global). unwrap_or (heading y.is y.bytes) above.items) steps.taken_above
       ∙ ap (λ (above : List ℕ). unwrap_or (heading y.is y.bytes) above) steps.begun_above;
   asked = steps.new_asked ∙ steps.taken_asked ∙ steps.begun_asked;
+  names = steps.new_names ∙ steps.taken_names ∙ steps.begun_names;
 }

@@ -129,3 +129,4 @@ pub record PlansLine (s : Settings) (old : State PagePlanner) (y : LineRead) (ne
   pub told : TellsLine new.stand.file.name new.stand.lines is_planned report found old.form.found.items new.form.found.items old.written new.written
   pub above : new.form.planner.above.items ≡ unwrap_or (heading y.is y.bytes) (above_at old.stand.lines old.form.planner.above.items)
   pub asked : new.form.planner.asked ≡ old.form.planner.asked
+  pub names : new.form.planner.names ≡ old.form.planner.names

@@ -31,26 +31,26 @@ pub record IsCalendar (s : Settings) (p : Planner) (n : Naming) (file : PlanFile
   pub text_is : string_bytes file.text ≡ calendar_text calendar events
   pub cut : file.is_cut ≡ nat_lt most_events (length found.plan.starts.items)
 
--- it is the page of the plan of the jobs of a page's planner, with the warnings of each, and what cron ignores
-pub record IsPage (s : Settings) (p : PagePlanner) (zone title : List ℕ) (ignored : List Line) (text : List ℕ) : Type 0 where
+-- it is the page of the plan of the jobs of a page's planner, by its name of the zone, with the warnings of each, and what cron ignores
+pub record IsPage (s : Settings) (p : PagePlanner) (title : List ℕ) (ignored : List Line) (text : List ℕ) : Type 0 where
   pub found : Found
   pub view : View
   pub about : About
   pub found_is : IsFoundBy s p.planner found
   pub is_view : IsViewOf s p.planner.jobs.items found view
-  pub zone_is : view.zone.now ≡ zone
+  pub zone_is : view.zone.now ≡ string_bytes p.planner.names.zone
   pub title_is : about.title.now ≡ title
   pub ignored_are : about.ignored.now ≡ ignored
   pub warnings_are : map (λ w. lines_told w.lines.now) about.warnings.now ≡ warnings_of p.found.items
   pub is_page : IsPageText view about text
 
--- it is the plan of a planner's jobs as JSON, and a line feed
-pub record IsJson (s : Settings) (p : Planner) (zone text : List ℕ) : Type 0 where
+-- it is the plan of a planner's jobs as JSON, by its name of the zone, and a line feed
+pub record IsJson (s : Settings) (p : Planner) (text : List ℕ) : Type 0 where
   pub found : Found
   pub view : View
   pub object : List ℕ
   pub found_is : IsFoundBy s p found
   pub is_view : IsViewOf s p.jobs.items found view
-  pub zone_is : view.zone.now ≡ zone
+  pub zone_is : view.zone.now ≡ string_bytes p.names.zone
   pub is_json : IsPlanJson view object
   pub text_is : text ≡ object ++ 10 ∷ []

@@ -220,6 +220,7 @@ pub record Plans (s : Settings) (old : State Planner) (y : LineRead) (new : Stat
       (seen old.form.schedules old.form.jobs (at_line y.is y.is_fed old.stand) old.written) (seen new.form.schedules new.form.jobs new.stand new.written)
   pub above : new.form.above.items ≡ unwrap_or (heading y.is y.bytes) (above_at old.stand.lines old.form.above.items)
   pub asked : new.form.asked ≡ old.form.asked
+  pub names : new.form.names ≡ old.form.names
 
 -- ---- the plan
 
@@ -234,11 +235,11 @@ abbrev pub IsFoundBy : Settings → Planner → Found → Type 0
 IsFoundBy s p found =
     IsFound (table_zone (start_of s).table.now) (start_of s).second (answered_until (start_of s).second (window_end s) s.listing) p.asked.most_a_day p.schedules.items found
 
--- what a planner's jobs answer was written
+-- what a planner's jobs answer was written, by its names of the zones
 pub record WritesAnswered (s : Settings) (shared : Shared) (p : Planner) (old new : Written) : Type 0 where
   pub found : Found
   pub found_is : IsFoundBy s p found
-  pub written : WritesAnswers s shared (whose_text p.schedules.items) p.jobs.items found p.asked.questions old new
+  pub written : WritesAnswers s shared p.names (whose_text p.schedules.items) p.jobs.items found p.asked.questions old new
 
 -- the plan of a planner's jobs was written: as a list where nothing is asked
 abbrev pub WritesPlanAs : Bool → Settings → Shared → Planner → Written → Written → Type 0

@@ -25,7 +25,7 @@ use croncheck_output::output::Output;
 use croncheck_reading::form::Form;
 use croncheck_reading::progress::{Line, Progress, Terms};
 use croncheck_reading::tally::{Tally, one_more};
-use croncheck_report::place::Place;
+use croncheck_report::location::Location;
 use croncheck_report::report::report_of_line;
 use croncheck_report::settings::Settings;
 use croncheck_report::told::description_of;
@@ -54,6 +54,15 @@ pub struct PlanAsked {
     pub most_a_day: Option<u64>,
     /// The file that it is asked for, if any: then nothing is written after the files.
     pub file: Option<FileAsked>,
+}
+
+/// What the zones are called on whose clocks a plan is shown.
+#[derive(Drop)]
+pub struct ClockNames {
+    /// The zone whose clock is shown.
+    pub zone: String,
+    /// The one that is shown besides; empty where there is none.
+    pub other: String,
 }
 
 /// A file that a plan is asked for.
@@ -97,19 +106,22 @@ pub struct Planner {
     // The title that comments give to the next line; empty where they give none.
     above: Vec<u8>,
     asked: PlanAsked,
+    names: ClockNames,
 }
 
 impl Planner {
-    /// It knows no job yet.
-    pub fn new(alloc: Global, asked: PlanAsked) -> Planner
+    /// It knows no job yet, but what the zones are called.
+    pub fn new(alloc: Global, asked: PlanAsked, names: ClockNames) -> Planner
         ensures jobs { (result.schedules.items ≡ []) × (result.jobs.items ≡ []) }
         ensures asked { result.asked ≡ asked }
+        ensures names { result.names ≡ names }
     {
         Planner {
             schedules: Vec::new(alloc),
             jobs: Vec::new(alloc),
             above: Vec::new(alloc),
             asked,
+            names,
         }
     }
 
@@ -119,6 +131,7 @@ impl Planner {
         ensures schedules { self.new.schedules ≡ self.old.schedules }
         ensures jobs { self.new.jobs ≡ self.old.jobs }
         ensures asked { self.new.asked ≡ self.old.asked }
+        ensures names { self.new.names ≡ self.old.names }
     {
         if lines == 0 {
             self.above.clear();
@@ -131,6 +144,7 @@ impl Planner {
         ensures schedules { self.new.schedules ≡ self.old.schedules }
         ensures jobs { self.new.jobs ≡ self.old.jobs }
         ensures asked { self.new.asked ≡ self.old.asked }
+        ensures names { self.new.names ≡ self.old.names }
     {
         if let Some(heading) = heading {
             self.above = heading;
@@ -141,7 +155,7 @@ impl Planner {
     fn keep(
         &mut self,
         terms: &Terms<'_, '_>,
-        place: Place<'_>,
+        place: Location<'_>,
         job: Cron,
         entry: &Entry<'_>,
     ) -> io::Result<()>
@@ -149,6 +163,7 @@ impl Planner {
             (jobs_seen self.old.schedules self.old.jobs) (jobs_seen self.new.schedules self.new.jobs)) }
         ensures above { self.new.above ≡ self.old.above }
         ensures asked { self.new.asked ≡ self.old.asked }
+        ensures names { self.new.names ≡ self.old.names }
     {
         let above = self.above.as_slice();
         let planned = planned_of(terms, self.asked, place, above, entry, &job)?;
@@ -171,6 +186,7 @@ impl Planner {
             (seen self.old.schedules self.old.jobs (stand_of progress.old) written) (seen self.new.schedules self.new.jobs (stand_of progress.new) written)) }
         ensures above { self.new.above ≡ self.old.above }
         ensures asked { self.new.asked ≡ self.old.asked }
+        ensures names { self.new.names ≡ self.old.names }
     {
         self.keep(terms, progress.place(), job, entry)?;
         progress.tally = with_job(progress.tally);
@@ -222,6 +238,7 @@ impl Planner {
             (seen self.new.schedules self.new.jobs (stand_of progress.new) (written_of W.contents output.new))) }
         ensures above { self.new.above ≡ self.old.above }
         ensures asked { self.new.asked ≡ self.old.asked }
+        ensures names { self.new.names ≡ self.old.names }
     {
         if is_refused_by_user(terms.settings, &entry) {
             return self.pass(terms, progress, line, entry, outcome, output);
@@ -293,6 +310,7 @@ impl Planner {
         let whose = whose_text(self.schedules.as_slice());
         write_answers(
             terms,
+            &self.names,
             whose,
             self.jobs.as_slice(),
             &found,
@@ -397,7 +415,7 @@ fn schedule_of(entry: &Entry<'_>, cron: Cron) -> Schedule
 fn planned_of(
     terms: &Terms<'_, '_>,
     asked: PlanAsked,
-    place: Place<'_>,
+    place: Location<'_>,
     above: &[u8],
     entry: &Entry<'_>,
     job: &Cron,
@@ -416,7 +434,7 @@ fn planned_of(
 fn planned_in(
     alloc: Global,
     asked: PlanAsked,
-    place: Place<'_>,
+    place: Location<'_>,
     above: &[u8],
     words: String,
     entry: &Entry<'_>,
@@ -447,7 +465,7 @@ fn planned_in(
 fn label_of(
     alloc: Global,
     asked: PlanAsked,
-    place: Place<'_>,
+    place: Location<'_>,
     title: &[u8],
     entry: &Entry<'_>,
 ) -> Result<String, AllocError>

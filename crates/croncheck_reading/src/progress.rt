@@ -12,7 +12,7 @@ use croncheck_files::fitness::Unfit;
 use croncheck_report::allowed::comment::names_by;
 use croncheck_report::allowed::take_away;
 use croncheck_report::file_seen::FileSeen;
-use croncheck_report::place::Place;
+use croncheck_report::location::Location;
 use croncheck_report::report::{Report, put_after_open_line, report_of_line};
 use croncheck_report::settings::{Settings, SettingsByKind};
 use croncheck_report::shared::Shared;
@@ -161,11 +161,11 @@ impl Progress {
     }
 
     /// The place of the line that was read last.
-    pub fn place(&self) -> Place<'_>
+    pub fn place(&self) -> Location<'_>
         ensures file { result.file.now ≡ string_bytes self.now.file.name }
         ensures line { result.line ≡ self.now.lines }
     {
-        Place {
+        Location {
             file: self.file.name(),
             line: self.lines,
         }
@@ -190,7 +190,7 @@ impl Progress {
         let is_too_many = is_too_many(terms.settings.dialect, self.lines, &entry, &self.file);
         let is_open = self.file.is_open();
         self.next_line(&entry, is_fed);
-        let place = Place {
+        let place = Location {
             file: self.file.name(),
             line: self.lines,
         };

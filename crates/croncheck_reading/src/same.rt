@@ -6,7 +6,7 @@ ghost use Rattle.croncheck_reading.specs.Same.{meaning_found};
 ghost use Rattle.croncheck_report.specs.Report.{file_and_line};
 ghost use Rattle.croncheck_reading.specs.Same.{times_compared, job_compared_in, owner_of, JobKey, IsCompared, are_same, place_kept, KeepsPlaces, Finds, FindsAny};
 
-use croncheck_report::place::Place;
+use croncheck_report::location::Location;
 use croncheck_report::report::Same;
 use croncheck_report::settings::Settings;
 use croner::Cron;
@@ -47,7 +47,7 @@ impl Seen {
         settings: &Settings<'_>,
         entry: &Entry<'_>,
         outcome: &Outcome,
-        place: Place<'_>,
+        place: Location<'_>,
     ) -> Result<Option<Same>, AllocError>
         ensures alone { settings.now.compares_jobs ≡ false → IfOk result (λ found. found ≡ None) }
         ensures unasked { settings.now.compares_jobs ≡ false → self.new ≡ self.old }
@@ -70,7 +70,7 @@ impl Seen {
         alloc: Global,
         words: Vec<u8>,
         job: Cron,
-        place: Place<'_>,
+        place: Location<'_>,
     ) -> Result<Option<Same>, AllocError>
         ensures found { IfOk result (λ found. Finds (words, job) (place.entry.file.now, place.entry.line) self.old self.new found) }
         ensures err { OnErr result (KeepsPlaces self.old self.new) }
@@ -101,7 +101,7 @@ impl Seen {
         &mut self,
         alloc: Global,
         key: (Vec<u8>, Cron),
-        place: Place<'_>,
+        place: Location<'_>,
     ) -> Result<(), AllocError>
         ensures kept { OnOk result ((other : JobKey) → place_kept self.new other
             ≡ (if are_same key other then Some (place.entry.file.now, place.entry.line) else place_kept self.old other)) }

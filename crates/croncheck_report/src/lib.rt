@@ -3,7 +3,7 @@
 
 pub mod allowed;
 pub mod file_seen;
-pub mod place;
+pub mod location;
 pub mod report;
 pub mod settings;
 pub mod shared;

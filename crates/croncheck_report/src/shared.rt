@@ -12,8 +12,6 @@ use jiff::tz::TimeZone;
 pub struct Shared<'z> {
     /// The zone whose clock is shown.
     pub zone: TimeZone<'z>,
-    /// What that zone is called; empty where that isn't told.
-    pub zone_name: &'z str,
     /// Where the clock's window ends before year 5000 does.
     pub stop: Option<Stop>,
     /// How many runs are listed, or up to when.
@@ -26,15 +24,12 @@ pub struct Shared<'z> {
     pub followed_from: Option<i64>,
     /// Another zone, whose clock is shown too.
     pub other_zone: Option<TimeZone<'z>>,
-    /// What answers call that other zone; empty where there is none.
-    pub other_name: &'z str,
 }
 
 impl<'z> Shared<'z> {
-    /// What the reports by some settings share, whose clock is that of this zone. It is called so.
-    pub fn of(zone: TimeZone<'z>, zone_name: &'z str, settings: &Settings<'_>) -> Shared<'z>
+    /// What the reports by some settings share, whose clock is that of this zone.
+    pub fn of(zone: TimeZone<'z>, settings: &Settings<'_>) -> Shared<'z>
         ensures zone { result.zone ≡ zone.entry }
-        ensures zone_name { result.zone_name.now ≡ zone_name.now }
         ensures stop { result.stop ≡ stop_of settings.now }
         ensures listing { result.listing ≡ settings.now.listing }
         ensures language { result.language ≡ settings.now.language }
@@ -44,25 +39,21 @@ impl<'z> Shared<'z> {
     {
         Shared {
             zone,
-            zone_name,
             stop: settings.stop(),
             listing: settings.listing,
             language: settings.language,
             off_from: off_from(settings),
             followed_from: followed_from(settings),
             other_zone: None,
-            other_name: "",
         }
     }
 
-    /// The same, with the clock of another zone beside each run. It is called so.
-    pub fn with_other_zone(self, other: TimeZone<'z>, other_name: &'z str) -> Shared<'z>
-        ensures zone { result ≡ record self.entry { other_zone = Some other.entry; other_name = result.other_name } }
-        ensures name { result.other_name.now ≡ other_name.now }
+    /// The same, with the clock of another zone beside each run.
+    pub fn with_other_zone(self, other: TimeZone<'z>) -> Shared<'z>
+        ensures { result ≡ record self.entry { other_zone = Some other.entry } }
     {
         Shared {
             other_zone: Some(other),
-            other_name,
             ..self
         }
     }

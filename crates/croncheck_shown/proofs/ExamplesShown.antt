@@ -6,7 +6,8 @@ use Rattle.crontab.specs.declared.line.Dialect.TheVariants as dialects
 use Rattle.croncheck_files.specs.declared.fitness.Unfit.TheVariants as unfits
 use Rattle.croncheck_report.specs.declared.settings.Tongue.TheVariants as tongues
 use Rattle.croncheck_report.specs.FileSeen.{File, unread, ending_of}
-use Rattle.croncheck_shown.specs.Shown.{ahead_text, weekday_text}
+use Rattle.croncheck_shown.specs.Shown.{weekday_text}
+use Rattle.cronplan_forms.specs.Clocks.{ahead_text}
 use Rattle.croncheck_output.specs.Front.{start_at, cut_at}
 
 -- ---- the clock

@@ -1,12 +1,12 @@
 -- What a clock shows, and reports, as they are shown.
-use Rattle.std.specs.Prelude.{◌≡◌, ℕ, ◌-◌, ◌/◌, ◌%◌, ℤ, pos, int_lt, unsigned_abs, Bool, true, false, not, ◌==◌, List, [], ◌∷◌, ◌++◌, codes, Option, Some, None, if◌then◌else◌}
+use Rattle.std.specs.Prelude.{◌≡◌, ℕ, ℤ, pos, Bool, true, false, not, ◌==◌, List, [], ◌∷◌, ◌++◌, codes, Option, Some, None, if◌then◌else◌}
 use Rattle.std.specs.Fmt.{decimal, signed_decimal}
 use Rattle.jiff_tz.specs.declared.timezone.TimeZone.{TimeZone}
 use Rattle.croner_words.specs.Swedish.{a_with_ring, o_with_dots}
 use Rattle.croner_base.specs.declared.time.civil.CivilDateTime.{CivilDateTime}
 use Rattle.croner_base.specs.declared.time.table.TableTime.{TableTime}
 use Rattle.croner_base.specs.Civil.{wall_second, weekday_of_second}
-use Rattle.croner_base.specs.CivilText.{two_places, date_text, time_text}
+use Rattle.croner_base.specs.CivilText.{date_text, time_text}
 use Rattle.croner_base.specs.TableZone.{table_moment}
 use Rattle.croner_base.specs.Zone.{reading}
 use Rattle.croner_base.specs.ZoneTable.{ahead_at}
@@ -17,6 +17,7 @@ use Rattle.croncheck_report.specs.declared.report.Report.TheVariants as reports
 use Rattle.croncheck_report.specs.declared.settings.Tongue.{Tongue}
 use Rattle.croncheck_report.specs.declared.settings.Tongue.TheVariants as tongues
 use Rattle.croncheck_report.specs.Report.{is_setting_found}
+use Rattle.cronplan_forms.specs.Clocks.{ahead_text}
 
 -- ---- offsets
 
@@ -53,22 +54,6 @@ swedish_weekday n =
 abbrev pub weekday_text : Tongue → ℕ → List ℕ
 weekday_text tongues.English n = english_weekday n
 weekday_text tongues.Swedish n = swedish_weekday n
-
--- seconds after hours and minutes: nothing where there are none
-abbrev pub odd_seconds : ℕ → List ℕ
-odd_seconds n = if n == 0 then [] else 58 ∷ two_places n
-
--- so many seconds as hours, minutes and, where there are some, seconds
-abbrev pub clock_length : ℕ → List ℕ
-clock_length n = two_places (n / 3_600) ++ (58 ∷ (two_places (n / 60 % 60) ++ odd_seconds (n % 60)))
-
--- the sign of a number of seconds ahead of UTC
-abbrev pub sign_text : ℤ → List ℕ
-sign_text ahead = if int_lt ahead (pos 0) then codes "-" else codes "+"
-
--- how far a clock is ahead of UTC, or behind it, as `+02:00`
-abbrev pub ahead_text : ℤ → List ℕ
-ahead_text ahead = sign_text ahead ++ clock_length (unsigned_abs ahead)
 
 -- what a clock shows at a second: the weekday, the date, the time and how far it is ahead of UTC; and the second
 abbrev pub clock_text : List ℕ → CivilDateTime → ℤ → ℤ → List ℕ

@@ -8,7 +8,7 @@ use crate::shown::found::finding_of;
 use croncheck_output::output::Output;
 use croncheck_reading::form::Form;
 use croncheck_reading::progress::{Line, Progress, Terms};
-use croncheck_report::place::Place;
+use croncheck_report::location::Location;
 use croncheck_report::report::Report;
 use std::io;
 use std::io::Write;
@@ -56,7 +56,7 @@ impl Form for Checker {
 // Writes what is found of a line at a place. The line is given without its line feed.
 fn write_finding<W: Write>(
     terms: &Terms<'_, '_>,
-    place: Place<'_>,
+    place: Location<'_>,
     line: &[u8],
     report: &Report<'_, '_>,
     output: &mut Output<W>,

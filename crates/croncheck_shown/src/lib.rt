@@ -2,7 +2,6 @@
 #![tactic(auto)]
 
 mod ago;
-mod ahead;
 pub mod checker;
 mod off;
 pub mod reporter;

@@ -14,19 +14,19 @@ pub mod pattern;
 mod previous;
 pub mod runs;
 
-use crate::ahead::Ahead;
 use crate::shown::changes::push_next_changes;
 use below::text_below;
 use croncheck_findings::findings::findings_of;
 use croncheck_output::front::{COMMAND_BYTES, cut_at, push_front, push_left_out, push_spaced};
 use croncheck_output::look::Look;
-use croncheck_report::place::Place;
+use croncheck_report::location::Location;
 use croncheck_report::report::{JobReport, Report};
 use croncheck_report::settings::Tongue;
 use croncheck_report::shared::Shared;
 use croncheck_runs::clock::stop::Stop;
 use croner::time::table::TableTime;
 use croner::time::{CivilDateTime, CronDateTime, Weekday};
+use cronplan_forms::Ahead;
 use crontab::bytes::{Kind, cut};
 use runs::push_told;
 use std::alloc::{AllocError, Global};
@@ -53,7 +53,7 @@ pub fn report_text(
     alloc: Global,
     look: Look,
     shared: &Shared<'_>,
-    place: Place<'_>,
+    place: Location<'_>,
     line: &[u8],
     report: &Report<'_, '_>,
 ) -> Result<String, AllocError>
@@ -72,7 +72,7 @@ fn told_text(
     alloc: Global,
     look: Look,
     shared: &Shared<'_>,
-    place: Place<'_>,
+    place: Location<'_>,
     line: &[u8],
     report: &Report<'_, '_>,
 ) -> Result<String, AllocError>
@@ -88,7 +88,7 @@ fn told_text(
 }
 
 // The place of a line, as its report begins.
-fn text_of_place(alloc: Global, place: Place<'_>) -> Result<String, AllocError>
+fn text_of_place(alloc: Global, place: Location<'_>) -> Result<String, AllocError>
     ensures { IfOk result (λ text. string_bytes text ≡ place_text place.entry.file.now place.entry.line) }
 {
     let (file, line) = (place.file, place.line);
@@ -273,9 +273,7 @@ fn push_clock_in(
     let shown = ShownSecond {
         weekday: weekday_text(language, run.civil_weekday()),
         civil: run.to_civil(),
-        ahead: Ahead {
-            seconds: ahead_of(shared, run),
-        },
+        ahead: ahead_at(shared, run),
         second: run.second(),
     };
     write!(text, "{shown}")
@@ -347,6 +345,15 @@ pub fn ahead_of(shared: &Shared<'_>, run: &TableTime<'_>) -> i32
     match run.timestamp() {
         Ok(instant) => shared.zone.to_offset(instant).seconds(),
         Err(_) => 0,
+    }
+}
+
+// The same, as it is shown.
+fn ahead_at(shared: &Shared<'_>, run: &TableTime<'_>) -> Ahead
+    ensures { result.seconds ≡ offset_of (plain_zone shared.now.zone) run.now.second }
+{
+    Ahead {
+        seconds: i64::from(ahead_of(shared, run)),
     }
 }
 

@@ -17,12 +17,12 @@ use Rattle.croner.specs.parser.Words.{AreWords}
 use Rattle.croner.specs.Views.{job_of}
 use Rattle.crontab.specs.declared.bytes.Kind.TheVariants as kinds
 use Rattle.crontab.specs.declared.field.Names.TheVariants as names
-use Rattle.crontab.specs.declared.field.Place.{Place}
+use Rattle.crontab.specs.declared.field.FieldBounds.{FieldBounds}
 use Rattle.crontab.specs.declared.field.Part.{Part}
 use Rattle.croncheck_warnings.specs.declared.warnings.OtherWarning.{OtherWarning}
 use Rattle.croncheck_warnings.specs.declared.warnings.OtherWarning.TheVariants as others
 use Rattle.crontab.specs.Bytes.{front, text_after, begins_with}
-use Rattle.crontab.specs.Line.{Five, words_of, minute_place, hour_place, day_place, month_place, weekday_place}
+use Rattle.crontab.specs.Line.{Five, words_of, minute_bounds, hour_bounds, day_bounds, month_bounds, weekday_bounds}
 use Rattle.crontab.specs.List.{parts_of, names_nothing, is_uneven}
 use Rattle.crontab.specs.Notes.{has_passed_over as are_passed_over, has_large_number as is_large_in, has_other_name as is_named_otherwise, looks_like_weekdays}
 use Rattle.croncheck_warnings.specs.Hidden.{has_hidden, has_hidden_within}
@@ -52,14 +52,14 @@ abbrev pub AreFieldsOfPattern : List ℕ → Option Texts → Type 0
 AreFieldsOfPattern text fields = (words : List (List ℕ)) × AreWords text words × (fields ≡ seven words)
 
 -- the values of each field
-abbrev pub place_of_field : PatternField → Place
-place_of_field fields.Seconds = minute_place
-place_of_field fields.Minutes = minute_place
-place_of_field fields.Hours = hour_place
-place_of_field fields.DayOfMonth = day_place
-place_of_field fields.Month = month_place
-place_of_field fields.Weekday = weekday_place
-place_of_field fields.Year = record { first = 1; last = 5000; names = names.None }
+abbrev pub bounds_of_field : PatternField → FieldBounds
+bounds_of_field fields.Seconds = minute_bounds
+bounds_of_field fields.Minutes = minute_bounds
+bounds_of_field fields.Hours = hour_bounds
+bounds_of_field fields.DayOfMonth = day_bounds
+bounds_of_field fields.Month = month_bounds
+bounds_of_field fields.Weekday = weekday_bounds
+bounds_of_field fields.Year = record { first = 1; last = 5000; names = names.None }
 
 abbrev pub text_of_field : PatternField → Texts → List ℕ
 text_of_field fields.Seconds t = t.seconds
@@ -72,7 +72,7 @@ text_of_field fields.Year t = t.years
 
 -- the parts of a field as cron(8) reads them. A field that only a pattern can have (`L`, `5,,10`) has none
 abbrev pub parts_in : PatternField → Texts → List Part
-parts_in field t = unwrap_or (parts_of (place_of_field field) (text_of_field field t)) []
+parts_in field t = unwrap_or (parts_of (bounds_of_field field) (text_of_field field t)) []
 
 -- how many values there are up to where a field of a time begins anew; 0 for the fields of a date
 abbrev pub turn_of : PatternField → ℕ
@@ -120,15 +120,15 @@ has_range_down field t = list_any names_nothing (parts_in field t)
 
 -- cron passes over bytes of the field
 abbrev pub has_passed_over : PatternField → Texts → Bool
-has_passed_over field t = are_passed_over (place_of_field field) (text_of_field field t)
+has_passed_over field t = are_passed_over (bounds_of_field field) (text_of_field field t)
 
 -- a number of the field is one that 32 bits don't hold
 abbrev pub has_large_number : PatternField → Texts → Bool
-has_large_number field t = is_large_in (place_of_field field) (text_of_field field t)
+has_large_number field t = is_large_in (bounds_of_field field) (text_of_field field t)
 
 -- a word of the field is a name, and none of this field
 abbrev pub has_other_name : PatternField → Texts → Bool
-has_other_name field t = is_named_otherwise (place_of_field field) (text_of_field field t)
+has_other_name field t = is_named_otherwise (bounds_of_field field) (text_of_field field t)
 
 -- a field of a crontab has a byte that hides others
 abbrev pub has_hidden_field : Texts → Bool

@@ -11,7 +11,7 @@ ghost use Rattle.croner.specs.compact.WordFields.{is_single_time};
 
 use crate::{Cron, JobType};
 use croner_base::errors::CronError;
-use made::compacted;
+use made::compact_cron;
 use parts::LastDay;
 use std::alloc::Global;
 use years::Years;
@@ -66,7 +66,7 @@ impl CompactCron {
         ensures lacks { OnErr result (IsOneRun (job_of cron.now).years → ⊥) }
     {
         let years = Years::of(alloc, &cron.pattern.years)?;
-        Ok(compacted(alloc, cron, years))
+        Ok(compact_cron(alloc, cron, years))
     }
 
     /// Which kind of job it is: as that of which it was made.

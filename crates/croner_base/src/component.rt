@@ -257,7 +257,7 @@ impl CronComponent {
     pub fn features(&self) -> u8
         ensures { result ≡ self.now.shape.supported }
     {
-        self.marks.supported()
+        self.marks.features()
     }
 
     /// What is subtracted from each number that a text names.

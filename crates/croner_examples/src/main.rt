@@ -3,6 +3,7 @@
 
 mod guide;
 mod interval;
+mod job_list;
 mod kept;
 mod named_job;
 mod next_run;
@@ -21,6 +22,7 @@ use croner_scheduler::Scheduler;
 use jiff::civil::DateTime;
 use jiff::tz::{TimeZone, TimeZoneDatabase};
 use jiff::{Timestamp, Zoned};
+use job_list::add;
 use named_job::Job;
 use own_time::OfficeTime;
 use scheduler::{Task, start_due};
@@ -83,17 +85,13 @@ fn show_own_time(rt: &HostRuntime) -> anyhow::Result<()> {
     Ok(())
 }
 
-// Adds a job, whose runs after a position are started.
-fn add<'z>(
-    rt: &HostRuntime,
-    scheduler: &mut Scheduler<Task<Cron>, Zoned<'z>>,
-    name: &str,
-    pattern: &str,
-    position: Zoned<'z>,
-) -> anyhow::Result<u64> {
-    let when = Cron::from_str(rt.alloc(), pattern)?;
-    let name = String::from_str(rt.alloc(), name)?;
-    Ok(scheduler.add(Task { name, when }, position)?.id)
+// The jobs of a list, and those of their runs that are due ten seconds later.
+fn show_list(rt: &HostRuntime, zones: &TimeZoneDatabase) -> anyhow::Result<()> {
+    let now = Timestamp::new(1_719_698_390, 0)?; // 2024-06-29T23:59:50 in Paris
+    let mut tasks = Scheduler::new(rt.alloc());
+    job_list::add_jobs(rt, zones, &mut tasks, now)?;
+    start_due(rt, &mut tasks, now.as_second() + 10)?;
+    Ok(())
 }
 
 // Jobs of two zones, which come and go.
@@ -119,6 +117,7 @@ fn start_jobs<'z>(
 
 fn show_scheduler(rt: &HostRuntime) -> anyhow::Result<()> {
     let zones = TimeZoneDatabase::from_dir(rt, "zones")?;
+    show_list(rt, &zones)?;
     let mut scheduler = Scheduler::new(rt.alloc());
     start_jobs(rt, &zones, &mut scheduler)?;
     restart::show_restart(rt, &zones)

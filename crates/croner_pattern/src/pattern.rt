@@ -347,7 +347,7 @@ impl Clone for CronPattern {
     #[inline(never)]
     fn clone(&self) -> Result<CronPattern, AllocError> {
         if self.has_fields_of_one_word() {
-            let text = self.text.copied(self.alloc)?;
+            let text = self.text.copy(self.alloc)?;
             let years = self.years.clone()?;
             return Ok(self.clone_around(years, text));
         }
@@ -359,7 +359,7 @@ impl Clone for CronPattern {
             months: self.months.clone()?,
             days_of_week: self.days_of_week.clone()?,
             years: self.years.clone()?,
-            text: self.text.copied(self.alloc)?,
+            text: self.text.copy(self.alloc)?,
             star_day: self.star_day,
             star_weekday: self.star_weekday,
             day_and_weekday: self.day_and_weekday,

@@ -68,10 +68,9 @@ impl Difference {
                 "takes a range that goes down, which goes on at the field's first value"
             }
             Difference::StepOfZero => {
-                "takes a step of 0, as none behind a star, and else for the first value alone"
+                "takes a step of 0, as none after a star, and else for the first value alone"
             }
-            Difference::LongName =>
-                "takes letters behind the three of a name, and passes over them",
+            Difference::LongName => "takes letters after the three of a name, and passes over them",
             Difference::DayZero => "takes day 0, on which nothing runs",
             Difference::StarAmongDays => {
                 "takes a day field for a star if one stands in its list, also as */1, so that the other day field decides alone"
@@ -87,10 +86,10 @@ impl Difference {
                 "runs on that weekday of the list alone which has the least number, as the # says",
             Difference::NearestInList => "goes by the least day of the list alone",
             Difference::LateNearest => {
-                "runs on a month's last day too, if this one lacks the day behind it and the next month begins with a Saturday"
+                "runs on a month's last day too, if this one lacks the day after it and the next month begins with a Saturday"
             }
             Difference::LoneLastWeekday => "reads a lone L of the weekdays as each Saturday",
-            Difference::StepOfName => "passes over a step behind a name",
+            Difference::StepOfName => "passes over a step after a name",
             Difference::StepOfOpenDay => {
                 "takes a day field with a question mark for a star, whatever else stands there"
             }

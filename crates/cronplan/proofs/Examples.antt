@@ -1,18 +1,20 @@
 -- Worked rows, computed from the definitions: a day from 00:00 on to 24:00, with starts at 02:00 of two jobs, and at 04:30.
-use Rattle.std.proofs.Common.{◌≡◌, ℕ, ℤ, pos, true, false, Bool, List, [], ◌∷◌, refl}
+use Rattle.std.proofs.Common.{◌≡◌, ℕ, ℤ, pos, true, false, Bool, List, [], ◌∷◌, refl, arith}
 use Rattle.cronplan.specs.declared.counts.Unit.TheVariants as units
 use Rattle.cronplan.specs.declared.moments.Moment.{Moment}
 use Rattle.std.specs.declared.cmp.Ordering.TheVariants.{Less, Greater}
+use Rattle.cronplan.specs.declared.span.Span.{Span}
 use Rattle.cronplan.specs.declared.start.JobStart.{JobStart}
 use Rattle.cronplan.specs.declared.windows.Bound.TheVariants as bounds
 use Rattle.cronplan.specs.declared.windows.Edge.{Edge}
+use Rattle.cronplan.specs.declared.windows.Window.{Window}
 use Rattle.cronplan.specs.Counts.{starts_at}
 use Rattle.cronplan.specs.Jobs.{Seen, shown_of, named_of, end_with}
 use Rattle.cronplan.specs.Moments.{at_second, fullest_cmp}
 use Rattle.cronplan.specs.Private.Gaps.{gaps}
 use Rattle.cronplan.specs.Spans.{is_span}
 use Rattle.cronplan.specs.Starts.{second_at, earlier_of}
-use Rattle.cronplan.specs.Windows.{seconds_in}
+use Rattle.cronplan.specs.Windows.{AreWindows, longest_cmp, seconds_in}
 
 -- a start of a job so many times, on a clock that shows UTC
 abbrev start : ℕ → ℕ → ℕ → JobStart
@@ -37,6 +39,17 @@ windows = refl
 long_windows : (gaps 9_001 (side (pos 86_400)) (side (pos 0)) day ≡ record { from = at (pos 16_200); until = side (pos 86_400) } ∷ [])
     × (seconds_in (record { from = at (pos 16_200); until = side (pos 86_400) }) ≡ 70_200)
 long_windows = (refl, refl)
+
+-- the longer window first, and of equal ones the earlier
+abbrev between : ℕ → ℕ → Window
+between from until = record { from = at (pos from); until = at (pos until) }
+
+longest_first : (longest_cmp (between 7_200 16_200) (between 0 7_200) ≡ Less) × (longest_cmp (between 7_200 14_400) (between 0 7_200) ≡ Greater)
+longest_first = (refl, refl)
+
+-- a window that is told twice is no answer
+not_twice : (starts : List JobStart) (span : Span) (least : ℕ) (w : Window) → ¬ AreWindows starts span least (w ∷ w ∷ [])
+not_twice starts span least w are = are.once 0 1 w (omega arith) (omega arith) refl
 
 -- a start at the first second of the span leaves no window before it
 begins_with_a_start : gaps 1 (side (pos 60)) (side (pos 0)) (start 0 0 1 ∷ []) ≡ record { from = at (pos 0); until = side (pos 60) } ∷ []

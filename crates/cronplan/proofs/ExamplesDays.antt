@@ -3,11 +3,13 @@
 use Rattle.std.proofs.Common.{◌≡◌, ℕ, ℤ, pos, true, false, Some, None, List, [], ◌∷◌, refl}
 use Rattle.croner_base.specs.TableZone.{clock}
 use Rattle.cronplan.specs.declared.changes.ClockChange.{ClockChange}
+use Rattle.cronplan.specs.declared.days.ShownHours.{ShownHours}
 use Rattle.cronplan.specs.declared.moments.Moment.{Moment}
+use Rattle.cronplan.specs.declared.span.Span.{Span}
 use Rattle.cronplan.specs.declared.start.JobStart.{JobStart}
 use Rattle.cronplan.specs.Changes.{change_at, skips, repeats, skips_hour, repeats_hour}
 use Rattle.cronplan.specs.Counts.{date_of}
-use Rattle.cronplan.specs.Days.{cell_of, fullest_on, dates_between}
+use Rattle.cronplan.specs.Days.{cell_of, fullest_on, dates_between, shown_hours}
 
 abbrev changes : List (ℤ × ℤ)
 changes = (pos 1_806_195_600, pos 7_200) ∷ (pos 1_824_944_400, pos 3_600) ∷ []
@@ -35,10 +37,44 @@ repeated = (refl, refl, refl, refl)
 abbrev starts : List JobStart
 starts = record { second = pos 1_806_193_800; job = 0; count = 2; wall = pos 1_806_197_400 } ∷ record { second = pos 1_806_195_600; job = 1; count = 1; wall = pos 1_806_202_800 } ∷ []
 
-cells : (cell_of starts (spring ∷ []) (pos 501_721) ≡ record { starts = 2; skipped = false; repeated = false })
-    × (cell_of starts (spring ∷ []) (pos 501_722) ≡ record { starts = 0; skipped = true; repeated = false })
-    × (cell_of starts (spring ∷ []) (pos 501_723) ≡ record { starts = 1; skipped = false; repeated = false })
-cells = (refl, refl, refl)
+-- a span from 01:30:00 of March 28 to 03:00:01, and its hours: the one from 01:00 to the one from 03:00
+abbrev night : Span
+night = record { first = pos 1_806_193_800; end = pos 1_806_195_601; held = refl }
+
+abbrev night_hours : ShownHours
+night_hours = record { first = pos 501_721; last = pos 501_723 }
+
+shown : shown_hours (clock (pos 3_600) changes) night (spring ∷ []) ≡ night_hours
+unfolding clock
+shown = refl
+
+-- a span from 03:00:00 of that day for a second: what the clock showed before isn't in it
+abbrev put_forward : Span
+put_forward = record { first = pos 1_806_195_600; end = pos 1_806_195_601; held = refl }
+
+shown_then : shown_hours (clock (pos 3_600) changes) put_forward (spring ∷ []) ≡ record { first = pos 501_723; last = pos 501_723 }
+unfolding clock
+shown_then = refl
+
+-- a span that begins where the clock is put back to 02:00 of October 31, for a second
+abbrev put_back : Span
+put_back = record { first = pos 1_824_944_400; end = pos 1_824_944_401; held = refl }
+
+-- and one of two hours from 02:30:00 of that day on, which ends as the clock shows 03:30:00
+abbrev across : Span
+across = record { first = pos 1_824_942_600; end = pos 1_824_949_800; held = refl }
+
+shown_back : (shown_hours (clock (pos 3_600) changes) put_back (autumn ∷ []) ≡ record { first = pos 506_930; last = pos 506_930 })
+    × (shown_hours (clock (pos 3_600) changes) across (autumn ∷ []) ≡ record { first = pos 506_930; last = pos 506_931 })
+unfolding clock
+shown_back = (refl, refl)
+
+cells : (cell_of starts (spring ∷ []) night_hours (pos 501_720) ≡ record { starts = 0; skipped = false; repeated = false; outside = true })
+    × (cell_of starts (spring ∷ []) night_hours (pos 501_721) ≡ record { starts = 2; skipped = false; repeated = false; outside = false })
+    × (cell_of starts (spring ∷ []) night_hours (pos 501_722) ≡ record { starts = 0; skipped = true; repeated = false; outside = false })
+    × (cell_of starts (spring ∷ []) night_hours (pos 501_723) ≡ record { starts = 1; skipped = false; repeated = false; outside = false })
+    × (cell_of starts (spring ∷ []) night_hours (pos 501_724) ≡ record { starts = 0; skipped = false; repeated = false; outside = true })
+cells = (refl, refl, refl, refl, refl)
 
 -- 20,899 is the date of March 22, and 20,905 that of March 28: seven dates; the hour 501,722 is its third one
 dates : (date_of (pos 1_805_673_600) ≡ pos 20_899) × (date_of (pos 1_806_202_800) ≡ pos 20_905) × (dates_between (pos 20_899) (pos 20_905) ≡ 7) × (dates_between (pos 1) (pos 0) ≡ 0)

@@ -1,16 +1,23 @@
 -- The windows between starts one by one are those of the span.
-use Rattle.std.proofs.Common.{◌≡◌, ◌∙◌, ℕ, ℤ, pos, Bool, true, false, ◌+◌, ◌<◌, ◌<ℤ◌, ◌≤ℤ◌, ◌-ℤ◌, inl, inr, List, [], ◌∷◌, ◌++◌, length, get_or, drop, refl, sym, ap, subst, arith, cond}
+use Rattle.std.proofs.Common.{◌≡◌, ◌≢◌, ◌∙◌, ℕ, ℤ, pos, Bool, true, false, ◌+◌, ◌<◌, ◌<ℤ◌, ◌≤ℤ◌, ◌-ℤ◌, inl, inr, List, [], ◌∷◌, ◌++◌, length, get_or, drop, refl, sym, ap, subst, arith, cond, is_lt}
 use Rattle.std.proofs.lemmas.Int.{ints, by_lt_z}
-use Rattle.std.proofs.lemmas.List.{at_drop_more}
+use Rattle.std.proofs.lemmas.List.{append-nil, at_drop_more}
 use Rattle.std.proofs.lemmas.List.Elements.{All-nil, All-cons, All-append, All-contains, All-weaker, Contains-append_cases, Contains-append_left, Contains-append_right}
-use Rattle.std.specs.List.{All, Contains}
+use Rattle.std.proofs.lemmas.List.Kept.{AllPairs-cons}
+use Rattle.std.proofs.lemmas.List.Sorted.{All-permutation, Contains-permutation}
+use Rattle.std.specs.List.{All, AllPairs, Contains}
+use Rattle.std.specs.List.Sorted.{IsPermutation, IsSorted, IsSortedByKey}
+use Rattle.std.specs.Ordering.{int_cmp, nat_cmp, ordering_then}
+use Rattle.std.specs.declared.cmp.Ordering.{Ordering}
+use Rattle.std.specs.declared.cmp.Ordering.TheVariants.{Less, Equal, Greater}
 use Rattle.cronplan.specs.declared.span.Span.{Span}
 use Rattle.cronplan.specs.declared.start.JobStart.{JobStart}
 use Rattle.cronplan.specs.declared.windows.Edge.{Edge}
 use Rattle.cronplan.specs.declared.windows.Window.{Window}
 use Rattle.cronplan.specs.Starts.{seconds_of}
 use Rattle.cronplan.specs.Private.Gaps.{edge_of, span_begin, span_end, is_long, gap, gaps}
-use Rattle.cronplan.specs.Windows.{NoneBetween, Begins, IsWindow, AreWindows}
+use Rattle.cronplan.specs.Windows.{NoneBetween, Begins, IsWindow, AreWindows, longest_cmp, seconds_in}
+use Rattle.cronplan.proofs.FilteredLists.{AllPairs-permutation}
 
 -- ---- the loop
 
@@ -42,6 +49,13 @@ gap-all P least w h = go (is_long least w) h where
   go : (b : Bool) → (b ≡ true → P w) → All P (cond b (w ∷ []) [])
   go true g = All-cons P w [] (g refl) (All-nil P)
   go false g = All-nil P
+
+-- before others such a window stands alone, or there is none
+gap-before : (R : Window → Window → Type 0) (least : ℕ) (w : Window) (ws : List Window) → (is_long least w ≡ true → All (R w) ws) → AllPairs R ws → AllPairs R (gap least w ++ ws)
+gap-before R least w ws h rest = go (is_long least w) h where
+  go : (b : Bool) → (b ≡ true → All (R w) ws) → AllPairs R (cond b (w ∷ []) [] ++ ws)
+  go true g = AllPairs-cons R w ws (g refl) rest
+  go false g = rest
 
 gap-contains : (least : ℕ) (w : Window) → is_long least w ≡ true → Contains (gap least w) w
 gap-contains least w e = subst (λ (b : Bool). Contains (cond b (w ∷ []) []) w) (sym e) (contains-head w [])
@@ -121,6 +135,33 @@ module _ (starts : List JobStart) (span : Span) (least : ℕ) where
       (gap-all (IsWindow starts span least) least (record { from = from; until = edge_of s }) (next-window from s ss h))
       (each-gap (edge_of s) ss (stands-next from s ss h))
 
+  -- none of them begins before a second that isn't after the first side
+  from-on : (from : Edge) (ss : List JobStart) (i : ℤ) → Stands starts span from ss → i ≤ℤ from.second → All (λ w. i ≤ℤ w.from.second) (gaps least (span_end span) from ss)
+  from-on from [] i h le = gap-all (λ w. i ≤ℤ w.from.second) least (record { from = from; until = span_end span }) (λ _. le)
+  from-on from (s ∷ ss) i h le =
+      let next : from.second ≤ℤ s.second = All-contains (λ t. from.second ≤ℤ t) (s.second ∷ seconds_of ss) s.second h.after (contains-head s.second (seconds_of ss)) in
+      All-append (λ w. i ≤ℤ w.from.second) (gap least (record { from = from; until = edge_of s })) (gaps least (span_end span) (edge_of s) ss)
+      (gap-all (λ w. i ≤ℤ w.from.second) least (record { from = from; until = edge_of s }) (λ _. le))
+      (from-on (edge_of s) ss i (stands-next from s ss h) (omega (arith, ints, le, next)))
+
+  -- each begins before those after it
+  rises : (from : Edge) (ss : List JobStart) → Stands starts span from ss → AllPairs (λ v w. v.from.second <ℤ w.from.second) (gaps least (span_end span) from ss)
+  rises from [] h =
+      subst (AllPairs (λ v w. v.from.second <ℤ w.from.second)) (append-nil (gap least (record { from = from; until = span_end span })))
+      (gap-before (λ v w. v.from.second <ℤ w.from.second) least (record { from = from; until = span_end span }) []
+      (λ _. All-nil (λ w. from.second <ℤ w.from.second)) (λ i j d lt within. absurd (omega (arith, within))))
+  rises from (s ∷ ss) h =
+      let rest = stands-next from s ss h in
+      gap-before (λ v w. v.from.second <ℤ w.from.second) least (record { from = from; until = edge_of s }) (gaps least (span_end span) (edge_of s) ss)
+      (λ e.
+      let some : from.second <ℤ s.second = (long-at least (record { from = from; until = edge_of s }) e).0 in
+      All-weaker (λ w. s.second ≤ℤ w.from.second) (λ w. from.second <ℤ w.from.second) (λ w le. omega (arith, ints, some, le)) (gaps least (span_end span) (edge_of s) ss)
+      (from-on (edge_of s) ss s.second rest (≤-same s.second)))
+      (rises (edge_of s) ss rest)
+
+  once-gaps : (from : Edge) (ss : List JobStart) → Stands starts span from ss → AllPairs (λ v w. v.from.second ≢ w.from.second) (gaps least (span_end span) from ss)
+  once-gaps from ss h i j d lt within same = omega (arith, ints, rises from ss h i j d lt within, same)
+
   -- a stretch after a side lies in one of them
   complete-gaps : (from : Edge) (ss : List JobStart) (a b : ℤ) → from.second ≤ℤ a → a <ℤ b → b ≤ℤ span.end → pos least ≤ℤ (b -ℤ a)
       → NoneBetween ss a b → (w : Window) × Contains (gaps least (span_end span) from ss) w × (w.from.second ≤ℤ a) × (b ≤ℤ w.until.second)
@@ -160,5 +201,34 @@ module _ (starts : List JobStart) (span : Span) (least : ℕ) where
   pub are_windows : Climbs (seconds_of starts) → All (λ t. span.first ≤ℤ t) (seconds_of starts) → AreWindows starts span least (gaps least (span_end span) (span_begin span) starts)
   are_windows climbs within = record {
     each = each-gap (span_begin span) starts (stands-first climbs within);
+    once = once-gaps (span_begin span) starts (stands-first climbs within);
     complete = λ a b le lt end long none. complete-gaps (span_begin span) starts a b le lt end long none;
   }
+
+-- ---- in another order
+
+-- two windows begin at different seconds
+abbrev Apart : Window → Window → Type 0
+Apart v w = v.from.second ≢ w.from.second
+
+pub in_order : (starts : List JobStart) (span : Span) (least : ℕ) (ws ordered : List Window) → AreWindows starts span least ws → IsPermutation ws ordered
+    → AreWindows starts span least ordered
+in_order starts span least ws ordered h same = record {
+  each = All-permutation (IsWindow starts span least) ws ordered same h.each;
+  once = AllPairs-permutation Apart (λ v w ne e. ne (sym e)) ws ordered same h.once;
+  complete = λ a b le lt end long none.
+      let found = h.complete a b le lt end long none in
+      (found.0, Contains-permutation ws ordered found.0 same found.1, found.2, found.3);
+}
+
+-- what comes first decides, unless it is a tie
+first-decides : (a b : Ordering) → is_lt (ordering_then a b) ≡ false → is_lt a ≡ false
+first-decides Less b e = e
+first-decides Equal b e = refl
+first-decides Greater b e = e
+
+pub by_length : (ws : List Window) → IsSorted longest_cmp ws → IsSortedByKey seconds_in (λ (a b : ℕ). nat_cmp b a) ws
+by_length ws up k d low within =
+    let v = get_or ws k d in
+    let w = get_or ws (k + 1) d in
+    first-decides (nat_cmp (seconds_in v) (seconds_in w)) (int_cmp w.from.second v.from.second) (up k d low within)

@@ -4,6 +4,7 @@ pub mod DayCells
 pub mod Examples
 pub mod ExamplesDays
 pub mod ExamplesJobDates
+pub mod ExamplesOtherClock
 pub mod ExamplesTogether
 pub mod FilteredLists
 pub mod FoundOnce

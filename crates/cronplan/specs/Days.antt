@@ -1,5 +1,5 @@
 -- The dates of a plan, hour by hour. Source: this crate's documentation.
-use Rattle.std.specs.Prelude.{◌≡◌, ℕ, ℤ, pos, ◌+◌, ◌+ℤ◌, ◌-ℤ◌, ◌*ℤ◌, ◌<◌, int_lt, nat_le, unsigned_abs, if◌then◌else◌, List, length, fold, slice_index_or, Option, Some, None}
+use Rattle.std.specs.Prelude.{◌≡◌, ℕ, ℤ, pos, ◌+◌, ◌+ℤ◌, ◌-ℤ◌, ◌*ℤ◌, ◌<◌, ◌&&◌, ◌||◌, Bool, int_lt, nat_le, unsigned_abs, if◌then◌else◌, List, length, fold, slice_index_or, Option, Some, None}
 use Rattle.std.specs.Int.{int_min, int_max}
 use Rattle.std.specs.Ordering.{int_eq}
 use Rattle.croner_base.specs.Zone.{Zone}
@@ -7,20 +7,57 @@ use Rattle.cronplan.specs.declared.changes.ClockChange.{ClockChange}
 use Rattle.cronplan.specs.declared.counts.Unit.TheVariants as units
 use Rattle.cronplan.specs.declared.days.Day.{Day}
 use Rattle.cronplan.specs.declared.days.HourCell.{HourCell}
+use Rattle.cronplan.specs.declared.days.ShownHours.{ShownHours}
 use Rattle.cronplan.specs.declared.moments.Moment.{Moment}
 use Rattle.cronplan.specs.declared.span.Span.{Span}
 use Rattle.cronplan.specs.declared.start.JobStart.{JobStart}
 use Rattle.cronplan.specs.Changes.{changes_in, skips_hour, repeats_hour}
-use Rattle.cronplan.specs.Counts.{date_of, starts_at}
+use Rattle.cronplan.specs.Counts.{date_of, hour_of, starts_at}
 use Rattle.cronplan.specs.Moments.{AreMoments}
 
--- an hour of a date, counted from 1970-01-01T00: how many starts there are in it, and whether a change of the clock skips or repeats it
-abbrev pub cell_of : List JobStart → List ClockChange → ℤ → HourCell
-cell_of starts changes hour = record { starts = starts_at units.Hour hour starts; skipped = skips_hour hour changes; repeated = repeats_hour hour changes }
+-- ---- the hours that a clock shows in a span, from the least to the greatest
+
+-- those at the first and the last second of the span
+abbrev pub shown_at_ends : Zone → Span → ShownHours
+shown_at_ends z span = record { first = hour_of (z.reads span.first); last = hour_of (z.reads (span.end -ℤ pos 1)) }
+
+-- the least of these hours, and of that to which a change puts the clock
+abbrev pub first_with : ShownHours → ClockChange → ℤ
+first_with shown c = if int_lt (hour_of c.shown) shown.first then hour_of c.shown else shown.first
+
+-- the greatest of these hours, and of that from which a change puts the clock, if the span has the second before it
+abbrev pub last_with : Span → ShownHours → ClockChange → ℤ
+last_with span shown c = if int_lt span.first c.second && int_lt shown.last (hour_of c.before) then hour_of c.before else shown.last
+
+-- the hours with those to which and from which a change puts the clock
+abbrev pub widened_hours : Span → ShownHours → ClockChange → ShownHours
+widened_hours span shown c = record { first = first_with shown c; last = last_with span shown c }
+
+-- between its changes a clock goes forward, so that it shows its least hour at the first second or at a change, and its greatest one at the last
+-- second or before a change
+abbrev pub shown_hours : Zone → Span → List ClockChange → ShownHours
+shown_hours z span changes = fold (widened_hours span) (shown_at_ends z span) changes
+
+-- an hour lies before or after these
+abbrev pub is_outside : ShownHours → ℤ → Bool
+is_outside shown hour = int_lt hour shown.first || int_lt shown.last hour
+
+-- ---- dates
+
+-- an hour of a date, counted from 1970-01-01T00: how many starts there are in it, whether a change of the clock skips or repeats it, and whether
+-- it lies outside of what the clock shows in the span
+abbrev pub cell_of : List JobStart → List ClockChange → ShownHours → ℤ → HourCell
+cell_of starts changes shown hour = record {
+  starts = starts_at units.Hour hour starts;
+  skipped = skips_hour hour changes;
+  repeated = repeats_hour hour changes;
+  outside = is_outside shown hour;
+}
 
 -- the 24 hours of a date
-abbrev pub AreHours : List JobStart → List ClockChange → ℤ → List HourCell → Type 0
-AreHours starts changes date cells = (length cells ≡ 24) × ((hour : ℕ) (d : HourCell) → hour < 24 → slice_index_or cells hour d ≡ cell_of starts changes (date *ℤ pos 24 +ℤ pos hour))
+abbrev pub AreHours : List JobStart → List ClockChange → ShownHours → ℤ → List HourCell → Type 0
+AreHours starts changes shown date cells =
+    (length cells ≡ 24) × ((hour : ℕ) (d : HourCell) → hour < 24 → slice_index_or cells hour d ≡ cell_of starts changes shown (date *ℤ pos 24 +ℤ pos hour))
 
 -- a moment takes the place of another, if it lies on the date and has more starts
 abbrev pub or_fuller : Option Moment → Moment → Option Moment
@@ -35,9 +72,9 @@ abbrev pub fullest_on : ℤ → List Moment → Option Moment
 fullest_on date moments = fold (fuller_moment date) None moments
 
 -- a date, with how many starts there are on it
-pub record IsDay (starts : List JobStart) (moments : List Moment) (changes : List ClockChange) (date : ℤ) (day : Day) : Type 0 where
+pub record IsDay (starts : List JobStart) (moments : List Moment) (changes : List ClockChange) (shown : ShownHours) (date : ℤ) (day : Day) : Type 0 where
   pub date_is : day.date ≡ date
-  pub hours_are : AreHours starts changes date day.hours.items
+  pub hours_are : AreHours starts changes shown date day.hours.items
   pub starts_are : day.starts ≡ starts_at units.Day date starts
   pub fullest_is : day.fullest ≡ fullest_on date moments
 
@@ -59,4 +96,4 @@ pub record AreDays (z : Zone) (table : List (ℤ × ℤ)) (span : Span) (starts 
   pub moments : List Moment
   pub are_moments : AreMoments starts moments
   pub count : length days ≡ dates_between (first_date z span starts) (last_date z span starts)
-  pub each : (k : ℕ) (d : Day) → k < length days → IsDay starts moments changes (first_date z span starts +ℤ pos k) (slice_index_or days k d)
+  pub each : (k : ℕ) (d : Day) → k < length days → IsDay starts moments changes (shown_hours z span changes) (first_date z span starts +ℤ pos k) (slice_index_or days k d)

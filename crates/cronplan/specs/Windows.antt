@@ -1,6 +1,8 @@
 -- The windows of a span in which nothing starts. Source: this crate's documentation.
-use Rattle.std.specs.Prelude.{◌≡◌, ℕ, ℤ, pos, unsigned_abs, ◌-ℤ◌, ◌<ℤ◌, ◌≤ℤ◌, List}
-use Rattle.std.specs.List.{All, Contains}
+use Rattle.std.specs.Prelude.{◌≡◌, ◌≢◌, ℕ, ℤ, pos, unsigned_abs, ◌-ℤ◌, ◌<ℤ◌, ◌≤ℤ◌, List}
+use Rattle.std.specs.List.{All, AllPairs, Contains}
+use Rattle.std.specs.Ordering.{int_cmp, nat_cmp, ordering_then}
+use Rattle.std.specs.declared.cmp.Ordering.{Ordering}
 use Rattle.cronplan.specs.declared.span.Span.{Span}
 use Rattle.cronplan.specs.declared.start.JobStart.{JobStart}
 use Rattle.cronplan.specs.declared.windows.Bound.{Bound}
@@ -34,8 +36,14 @@ pub record IsWindow (starts : List JobStart) (span : Span) (least : ℕ) (w : Wi
   pub some : w.from.second <ℤ w.until.second
   pub long : pos least ≤ℤ (w.until.second -ℤ w.from.second)
 
--- the windows of a span with so many seconds at least: each is one, and every stretch of the span without a start that is so long lies in one
+-- the windows of a span with so many seconds at least: each is one, no two begin at one second, and every stretch of the span without a start that
+-- is so long lies in one
 pub record AreWindows (starts : List JobStart) (span : Span) (least : ℕ) (windows : List Window) : Type 0 where
   pub each : All (IsWindow starts span least) windows
+  pub once : AllPairs (λ v w. v.from.second ≢ w.from.second) windows
   pub complete : (a b : ℤ) → span.first ≤ℤ a → a <ℤ b → b ≤ℤ span.end → pos least ≤ℤ (b -ℤ a) → NoneBetween starts a b
       → (w : Window) × Contains windows w × (w.from.second ≤ℤ a) × (b ≤ℤ w.until.second)
+
+-- the order of windows: the longer one first, and of equal ones the earlier
+abbrev pub longest_cmp : Window → Window → Ordering
+longest_cmp v w = ordering_then (nat_cmp (seconds_in w) (seconds_in v)) (int_cmp v.from.second w.from.second)

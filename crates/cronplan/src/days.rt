@@ -3,12 +3,12 @@ ghost use Rattle.std.specs.Prelude.{◌≡◌, ◌≤ℤ◌, ℤ, pos, neg_ℤ, 
 ghost use Rattle.croner_base.specs.TableZone.{table_zone};
 ghost use Rattle.cronplan.specs.Changes.{changes_in};
 ghost use Rattle.cronplan.specs.Counts.{date_of, starts_at};
-ghost use Rattle.cronplan.specs.Days.{AreDays, AreHours, IsDay, cell_of, fuller_moment, fullest_on, first_date, last_date, dates_between};
+ghost use Rattle.cronplan.specs.Days.{AreDays, AreHours, IsDay, cell_of, fuller_moment, fullest_on, first_date, last_date, dates_between, shown_hours, shown_at_ends, widened_hours, first_with, last_with, is_outside};
 ghost use Rattle.cronplan.specs.Private.CountedPlan.{IsCounted, AreRows, IsDateNumber};
 ghost use Rattle.cronplan.specs.declared.start.JobStart.{JobStart};
 
 use crate::changes::{ClockChange, changes_in, repeats_hour, skips_hour, wall_at};
-use crate::counts::{Unit, date_of};
+use crate::counts::{Unit, date_of, hour_of};
 use crate::moments::{Moment, moments_of};
 use crate::plan::Plan;
 use crate::span::Span;
@@ -29,6 +29,8 @@ pub struct HourCell {
     pub skipped: bool,
     /// Whether the clock shows a second of it twice.
     pub repeated: bool,
+    /// Whether it lies before the first hour that the clock shows in the plan's span, or after the last: nothing is known of it.
+    pub outside: bool,
 }
 
 /// A date of a clock, in a plan.
@@ -54,6 +56,13 @@ pub struct Days {
     pub changes: Vec<ClockChange>,
 }
 
+// The hours that a clock shows in a span, counted from 1970-01-01T00: from the least to the greatest.
+#[derive(Clone, Copy)]
+struct ShownHours {
+    first: i64,
+    last: i64,
+}
+
 // What the cells of a plan are made of.
 #[derive(Drop)]
 struct Counted {
@@ -61,6 +70,7 @@ struct Counted {
     by_day: BTreeMap<i64, u64>,
     moments: Vec<Moment>,
     changes: Vec<ClockChange>,
+    shown: ShownHours,
 }
 
 impl Plan {
@@ -86,17 +96,73 @@ impl Plan {
 fn counts_of(alloc: Global, plan: &Plan, table: &ClockTable) -> Result<Counted, AllocError>
     ensures counted { IfOk result (IsCounted plan.now.starts.items) }
     ensures changes { IfOk result (λ counted. counted.changes.items ≡ changes_in (table_zone table.now) plan.now.span table.now.changes.items) }
+    ensures shown { IfOk result (λ counted. counted.shown ≡ shown_hours (table_zone table.now) plan.now.span counted.changes.items) }
 {
     let by_hour = plan.counts(alloc, Unit::Hour)?;
     let by_day = plan.counts(alloc, Unit::Day)?;
     let moments = moments_of(alloc, plan.starts.as_slice())?;
     let changes = changes_in(alloc, table, plan.span)?;
+    let shown = shown_hours(table, plan.span, changes.as_slice());
     Ok(Counted {
         by_hour,
         by_day,
         moments,
         changes,
+        shown,
     })
+}
+
+// The hours that the clock of a table shows in a span, in which it has these changes.
+fn shown_hours(table: &ClockTable, span: Span, changes: &[ClockChange]) -> ShownHours
+    ensures { result ≡ shown_hours (table_zone table.now) span changes.now }
+{
+    let mut shown = shown_at_ends(table, span);
+    for change in changes {
+        shown = widened_hours(span, shown, *change);
+    }
+    shown
+}
+
+// Those at the first and the last second of a span.
+fn shown_at_ends(table: &ClockTable, span: Span) -> ShownHours
+    ensures { result ≡ shown_at_ends (table_zone table.now) span }
+{
+    ShownHours {
+        first: hour_of(wall_at(table, span.first)),
+        last: hour_of(wall_at(table, span.last())),
+    }
+}
+
+// These, and those from which and to which a change in the span puts the clock.
+fn widened_hours(span: Span, shown: ShownHours, change: ClockChange) -> ShownHours
+    ensures { result ≡ widened_hours span shown change }
+{
+    ShownHours {
+        first: first_with(shown, change),
+        last: last_with(span, shown, change),
+    }
+}
+
+// The least of these hours, and of that to which a change puts the clock.
+fn first_with(shown: ShownHours, change: ClockChange) -> i64
+    ensures { result ≡ first_with shown change }
+{
+    let hour = hour_of(change.shown);
+    if hour < shown.first {
+        return hour;
+    }
+    shown.first
+}
+
+// The greatest of these hours, and of that from which a change puts the clock, if the span has the second before it.
+fn last_with(span: Span, shown: ShownHours, change: ClockChange) -> i64
+    ensures { result ≡ last_with span shown change }
+{
+    let hour = hour_of(change.before);
+    if span.first < change.second && shown.last < hour {
+        return hour;
+    }
+    shown.last
 }
 
 /// The first date of a plan: the one that the clock shows at the first second of the span, or that of a start, if one lies before it.
@@ -165,7 +231,7 @@ fn days_between(
 // A date.
 fn day_on(alloc: Global, counted: &Counted, date: i64) -> Result<Day, AllocError>
     requires { IsDateNumber date }
-    ensures { (starts : List JobStart) → IsCounted starts counted.now → IfOk result (λ day. IsDay starts counted.now.moments.items counted.now.changes.items date day) }
+    ensures { (starts : List JobStart) → IsCounted starts counted.now → IfOk result (λ day. IsDay starts counted.now.moments.items counted.now.changes.items counted.now.shown date day) }
 {
     let hours = hours_on(alloc, counted, date)?;
     let starts = starts_on(counted, date);
@@ -188,7 +254,7 @@ fn starts_on(counted: &Counted, date: i64) -> u64
 // The hours of a date.
 fn hours_on(alloc: Global, counted: &Counted, date: i64) -> Result<Vec<HourCell>, AllocError>
     requires { IsDateNumber date }
-    ensures { (starts : List JobStart) → IsCounted starts counted.now → IfOk result (λ cells. AreHours starts counted.now.changes.items date cells.items) }
+    ensures { (starts : List JobStart) → IsCounted starts counted.now → IfOk result (λ cells. AreHours starts counted.now.changes.items counted.now.shown date cells.items) }
 {
     let mut cells = Vec::new(alloc);
     for hour in 0..HOURS_PER_DAY {
@@ -199,14 +265,22 @@ fn hours_on(alloc: Global, counted: &Counted, date: i64) -> Result<Vec<HourCell>
 
 // An hour.
 fn cell_at(counted: &Counted, hour: i64) -> HourCell
-    ensures { (starts : List JobStart) → IsCounted starts counted.now → result ≡ cell_of starts counted.now.changes.items hour }
+    ensures { (starts : List JobStart) → IsCounted starts counted.now → result ≡ cell_of starts counted.now.changes.items counted.now.shown hour }
 {
     let changes = counted.changes.as_slice();
     HourCell {
         starts: counted.by_hour.get(&hour).copied().unwrap_or(0),
         skipped: skips_hour(changes, hour),
         repeated: repeats_hour(changes, hour),
+        outside: is_outside(counted.shown, hour),
     }
+}
+
+// Whether an hour lies before or after these.
+fn is_outside(shown: ShownHours, hour: i64) -> bool
+    ensures { result ≡ is_outside shown hour }
+{
+    hour < shown.first || shown.last < hour
 }
 
 // Of moments in order, the one on a date with the most starts, and of equal ones the first.

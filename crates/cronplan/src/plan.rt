@@ -7,7 +7,7 @@ ghost use Rattle.std.specs.Ordering.{nat_cmp, int_cmp};
 ghost use Rattle.cronplan.specs.Counts.{starts_at};
 ghost use Rattle.cronplan.specs.Moments.{AreFullest};
 ghost use Rattle.cronplan.specs.Starts.{start_cmp, second_at, earlier_of, IsMerged, Merges};
-ghost use Rattle.cronplan.specs.Windows.{AreWindows, seconds_in};
+ghost use Rattle.cronplan.specs.Windows.{AreWindows, longest_cmp, seconds_in};
 
 use crate::counts::{Unit, counts_by};
 use crate::moments::{Moment, moments_of};
@@ -59,9 +59,10 @@ impl Plan {
     pub fn quiet_windows(&self, alloc: Global, least: u64) -> Result<Vec<Window>, AllocError>
         ensures windows { IfOk result (λ w. AreWindows self.now.starts.items self.now.span least w.items) }
         ensures longest { IfOk result (λ w. IsSortedByKey seconds_in (λ a b. nat_cmp b a) w.items) }
+        ensures order { IfOk result (λ w. IsSorted longest_cmp w.items) }
     {
         let mut windows = windows_between(alloc, self.starts.as_slice(), self.span, least)?;
-        windows.sort_by_key(|window| Reverse(window.seconds()))?;
+        windows.sort_unstable_by_key(|window| (Reverse(window.seconds()), window.from.second));
         Ok(windows)
     }
 

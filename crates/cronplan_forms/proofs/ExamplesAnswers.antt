@@ -7,7 +7,7 @@ use Rattle.cronplan.specs.declared.windows.Bound.{Bound}
 use Rattle.cronplan.specs.declared.windows.Bound.TheVariants as bounds
 use Rattle.cronplan_forms.specs.declared.answers.quiet.ShownWindow.{ShownWindow}
 use Rattle.cronplan_forms.specs.declared.clock.ClockTime.{ClockTime}
-use Rattle.cronplan_forms.specs.Answers.{starts_text, hour_line, times_text, joined, joined_after, added_label, cut_line, window_text}
+use Rattle.cronplan_forms.specs.Answers.{starts_text, hour_line, times_text, joined, joined_after, added_label, busy_text, cut_line, no_moment, no_window, silence_text, window_text}
 use Rattle.cronplan_forms.specs.Apart.{set_apart}
 use Rattle.cronplan_forms.specs.Clocks.{ahead_text, clock_text, lasting_text}
 use Rattle.cronplan_forms.specs.DateNames.{month_text}
@@ -81,6 +81,18 @@ the_second_alone = refl
 
 the_first_alone : set_apart (codes "a\n") [] ≡ codes "a\n"
 the_first_alone = refl
+
+-- where jobs are left out, more than nothing starts
+silence : (silence_text true ≡ codes "nothing starts") × (silence_text false ≡ codes "nothing starts but what is left out")
+silence = (refl, refl)
+
+no_long_window : no_window false 2_700 ≡ codes "no window of " ++ (lasting_text 2_700 ++ codes " or longer in which nothing starts but what is left out\n")
+unfolding no_window
+no_long_window = refl
+
+no_start : busy_text true [] [] ≡ codes "no moment: nothing starts\n"
+unfolding no_moment
+no_start = refl
 
 not_cut : cut_line false ≡ []
 not_cut = refl

@@ -1,6 +1,8 @@
 -- Worked rows of windows that come again from day to day, computed from the definitions.
-use Rattle.std.proofs.Common.{◌≡◌, ◌≤◌, ◌<◌, ◌+◌, ◌*◌, ℕ, pos, true, false, [], ◌∷◌, ◌++◌, arith, refl}
+use Rattle.std.proofs.Common.{◌≡◌, ◌≤◌, ◌<◌, ◌+◌, ◌*◌, ℕ, pos, true, false, [], ◌∷◌, ◌++◌, arith, ap, sym, refl}
+use Rattle.std.proofs.lemmas.Bool.{true≢false}
 use Rattle.std.specs.Fmt.{digits}
+use Rattle.std.specs.Ordering.{ordering_index}
 use Rattle.std.specs.Prelude.{codes}
 use Rattle.std.specs.declared.cmp.Ordering.TheVariants.{Less}
 use Rattle.jiff_core.specs.Calendar.{days_of_months}
@@ -8,12 +10,14 @@ use Rattle.croner_base.specs.declared.time.civil.Weekday.{Weekday}
 use Rattle.croner_base.specs.declared.time.civil.Weekday.TheVariants as weekdays
 use Rattle.croner_base.specs.Calendar.{day_number, days_since_zero, year_start}
 use Rattle.croner_base.specs.Civil.{wall_second}
+use Rattle.croner_base.specs.Zone.{Zone}
+use Rattle.cronplan.specs.declared.plan.Plan.{Plan}
 use Rattle.cronplan.specs.declared.windows.Bound.{Bound}
 use Rattle.cronplan.specs.declared.windows.Bound.TheVariants as bounds
 use Rattle.cronplan_forms.specs.declared.answers.quiet.ShownWindow.{ShownWindow}
 use Rattle.cronplan_forms.specs.declared.clock.ClockTime.{ClockTime}
 use Rattle.cronplan_forms.specs.Clocks.{lasting_text}
-use Rattle.cronplan_forms.specs.WindowRuns.{comes_again, day_times_text, days_line, is_regular, longest_text, run_line, told_cmp, window_runs}
+use Rattle.cronplan_forms.specs.WindowRuns.{AreTold, IsRun, comes_again, day_times_text, days_line, is_regular, longest_text, run_line, told_cmp, window_runs}
 
 -- an hour of a day of March 2027, whose first second is given, on a clock that is so many hours ahead
 abbrev hour_of : Weekday → (day : ℕ) → 1 ≤ day → day ≤ 31 → (hour : ℕ) → hour < 24 → ℕ → ℕ → ClockTime
@@ -108,5 +112,15 @@ earlier_in_the_day : told_cmp tuesday (between monday.until (hour_of weekdays.Tu
 unfolding wall_second day_number year_start days_since_zero days_of_months
 earlier_in_the_day = refl
 
-no_run : longest_text [] ≡ []
+-- a window that is told twice is no answer
+not_twice : (z : Zone) (p : Plan) (least : ℕ) → ¬ AreTold z p least (monday ∷ monday ∷ [])
+unfolding wall_second day_number year_start days_since_zero days_of_months
+not_twice z p least told = omega (arith, ap ordering_index (told.order 0 1 monday (omega arith) (omega arith)))
+
+-- windows of a weekend between are no run
+no_run_of_these : ¬ IsRun (monday ∷ friday ∷ [])
+unfolding wall_second day_number year_start days_since_zero days_of_months
+no_run_of_these run = true≢false (sym run.0)
+
+no_run : longest_text true [] ≡ []
 no_run = refl

@@ -8,6 +8,7 @@ pub mod MonthParts
 pub mod RunSteps
 pub mod TitleDates
 pub mod ToldOnce
+pub mod ToldOrder
 pub mod UtcClock
 pub mod WeekParts
 mod ExamplesAnswers

@@ -47,15 +47,15 @@ run_more runs new run rest behind n all is some long first after so_far =
     ∙ append_assoc (map windows_of runs) (windows_of run ∷ []) (window_runs behind) ∙ ap (λ (ws : List (List ShownWindow)). map windows_of runs ++ ws) (sym cut) ∙ so_far
 
 -- the first runs of all
-pub first_lines : (runs longest : List WindowRun) → longest ≡ take most_longest runs
-    → longest_text (take most_longest (map windows_of runs)) ≡ longest_text (map windows_of longest)
-first_lines runs longest is = ap longest_text (take-map windows_of most_longest runs ∙ ap (map windows_of) (sym is))
+pub first_lines : (is_whole : Bool) (runs longest : List WindowRun) → longest ≡ take most_longest runs
+    → longest_text is_whole (take most_longest (map windows_of runs)) ≡ longest_text is_whole (map windows_of longest)
+first_lines is_whole runs longest is = ap (longest_text is_whole) (take-map windows_of most_longest runs ∙ ap (map windows_of) (sym is))
 
 -- what is told of them, if there are some, or there is none
-pub some_lines : (runs : List WindowRun) → 0 < length runs → longest_text (map windows_of runs) ≡ some_longest (map windows_of runs)
-some_lines [] some = absurd (omega (arith, some))
-some_lines (run ∷ runs) some = refl
+pub some_lines : (is_whole : Bool) (runs : List WindowRun) → 0 < length runs → longest_text is_whole (map windows_of runs) ≡ some_longest is_whole (map windows_of runs)
+some_lines is_whole [] some = absurd (omega (arith, some))
+some_lines is_whole (run ∷ runs) some = refl
 
-pub no_line : (runs : List WindowRun) → length runs ≡ 0 → longest_text (map windows_of runs) ≡ []
-no_line [] none = refl
-no_line (run ∷ runs) none = absurd (omega (arith, none))
+pub no_line : (is_whole : Bool) (runs : List WindowRun) → length runs ≡ 0 → longest_text is_whole (map windows_of runs) ≡ []
+no_line is_whole [] none = refl
+no_line is_whole (run ∷ runs) none = absurd (omega (arith, none))

@@ -6,6 +6,7 @@ use Rattle.std.proofs.lemmas.List.{at_drop_more}
 use Rattle.cronplan.specs.declared.days.HourCell.{HourCell}
 use Rattle.cronplan.specs.declared.jobs.Frequent.{Frequent}
 use Rattle.cronplan_forms.specs.declared.answers.busy.ShownMoment.{ShownMoment}
+use Rattle.cronplan_forms.specs.declared.job.Job.{Job}
 use Rattle.cronplan_forms.specs.declared.week.changes.ShownChange.{ShownChange}
 use Rattle.cronplan_forms.specs.declared.week.Signs.{Signs}
 use Rattle.cronplan_forms.specs.declared.week.WeekDay.{WeekDay}
@@ -39,9 +40,9 @@ pub moments_step : (xs : List ShownMoment) (i : ℕ) (x : ShownMoment) → i < l
     → flat_map moment_line (drop i xs) ≡ moment_line x ++ flat_map moment_line (drop (i + 1) xs)
 moments_step xs i x h is = step moment_line xs i x h is
 
-pub frequent_step : (titles : List (List ℕ)) (xs : List Frequent) (i : ℕ) (x : Frequent) → i < length xs → x ≡ get_or xs i x
-    → flat_map (left_out_line titles) (drop i xs) ≡ left_out_line titles x ++ flat_map (left_out_line titles) (drop (i + 1) xs)
-frequent_step titles xs i x h is = step (left_out_line titles) xs i x h is
+pub frequent_step : (jobs : List Job) (xs : List Frequent) (i : ℕ) (x : Frequent) → i < length xs → x ≡ get_or xs i x
+    → flat_map (left_out_line jobs) (drop i xs) ≡ left_out_line jobs x ++ flat_map (left_out_line jobs) (drop (i + 1) xs)
+frequent_step jobs xs i x h is = step (left_out_line jobs) xs i x h is
 
 pub hours_step : (xs : List ℕ) (i x : ℕ) → i < length xs → x ≡ get_or xs i x
     → hour_lines i (drop i xs) ≡ hour_line i x ++ hour_lines (i + 1) (drop (i + 1) xs)

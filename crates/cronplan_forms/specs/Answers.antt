@@ -2,8 +2,7 @@
 use Rattle.std.specs.Prelude.{◌≡◌, ◌==◌, ◌<◌, ◌||◌, ◌*◌, ℕ, suc, pos, Bool, true, false, List, [], ◌∷◌, ◌++◌, codes, length, map, slice_get, slice_index_or, Option, Some, None, if◌then◌else◌}
 use Rattle.std.specs.Fmt.{decimal}
 use Rattle.std.specs.List.{All, flat_map}
-use Rattle.std.specs.List.Sorted.{IsSortedByKey}
-use Rattle.std.specs.Ordering.{nat_cmp}
+use Rattle.std.specs.List.Sorted.{IsSorted}
 use Rattle.croner_base.specs.Excerpt.{excerpt, excerpt_characters}
 use Rattle.croner_base.specs.Zone.{Zone}
 use Rattle.cronplan.specs.declared.counts.Unit.TheVariants as units
@@ -17,11 +16,12 @@ use Rattle.cronplan.specs.Counts.{starts_at}
 use Rattle.cronplan.specs.Moments.{AreFullest}
 use Rattle.cronplan.specs.Starts.{most_starts}
 use Rattle.cronplan.specs.Together.{AreTogether}
-use Rattle.cronplan.specs.Windows.{AreWindows, seconds_in}
+use Rattle.cronplan.specs.Windows.{AreWindows, longest_cmp, seconds_in}
 use Rattle.cronplan_forms.specs.declared.answers.busy.ShownMoment.{ShownMoment}
 use Rattle.cronplan_forms.specs.declared.answers.quiet.ShownWindow.{ShownWindow}
 use Rattle.cronplan_forms.specs.declared.answers.together.ShownSet.{ShownSet}
 use Rattle.cronplan_forms.specs.declared.job.Job.{Job}
+use Rattle.cronplan_forms.specs.declared.view.View.{View}
 use Rattle.cronplan_forms.specs.Clocks.{IsClockAt, clock_text, clock_time_text, lasting_text}
 
 -- ---- when nothing starts
@@ -31,11 +31,11 @@ pub record IsShownWindow (z : Zone) (s : ShownWindow) : Type 0 where
   pub from : IsClockAt z s.window.from.second s.from
   pub until : IsClockAt z s.window.until.second s.until
 
--- the windows of a plan that are so long at least, the longest first
+-- the windows of a plan that are so long at least: the longest first, and of equal ones the earlier
 pub record IsQuiet (z : Zone) (p : Plan) (least : ℕ) (shown : List ShownWindow) : Type 0 where
   pub windows : List Window
   pub are_windows : AreWindows p.starts.items p.span least windows
-  pub longest : IsSortedByKey seconds_in (λ a b. nat_cmp b a) windows
+  pub longest : IsSorted longest_cmp windows
   pub of_them : map (λ s. s.window) shown ≡ windows
   pub each : All (IsShownWindow z) shown
 
@@ -58,15 +58,23 @@ window_text s =
 unfoldable pub window_line : ShownWindow → List ℕ
 window_line s = codes "  " ++ (window_text s ++ codes "\n")
 
+-- a plan shows all jobs: none is left out
+abbrev pub shows_all : View → Bool
+shows_all v = length v.frequent.now == 0
+
+-- nothing starts; or nothing of what is shown does, where jobs are left out
+abbrev pub silence_text : Bool → List ℕ
+silence_text is_whole = if is_whole then codes "nothing starts" else codes "nothing starts but what is left out"
+
 -- what stands in front of these lines, or where there is none
-unfoldable pub no_window : ℕ → List ℕ
-no_window least = codes "no window of " ++ (lasting_text least ++ codes " or longer in which nothing starts\n")
+unfoldable pub no_window : Bool → ℕ → List ℕ
+no_window is_whole least = codes "no window of " ++ (lasting_text least ++ (codes " or longer in which " ++ (silence_text is_whole ++ codes "\n")))
 
-unfoldable pub some_windows : ℕ → List ℕ
-some_windows least = codes "windows of " ++ (lasting_text least ++ codes " or longer in which nothing starts:\n")
+unfoldable pub some_windows : Bool → ℕ → List ℕ
+some_windows is_whole least = codes "windows of " ++ (lasting_text least ++ (codes " or longer in which " ++ (silence_text is_whole ++ codes ":\n")))
 
-abbrev pub quiet_head : Bool → ℕ → List ℕ
-quiet_head is_empty least = if is_empty then no_window least else some_windows least
+abbrev pub quiet_head : Bool → Bool → ℕ → List ℕ
+quiet_head is_empty is_whole least = if is_empty then no_window is_whole least else some_windows is_whole least
 
 -- ---- when most starts
 
@@ -117,12 +125,16 @@ unfoldable pub busy_lines : List ShownMoment → List ℕ → List ℕ
 busy_lines shown hours =
     codes "the fullest moments:\n" ++ (moment_lines shown ++ (codes "starts by the hour of the day:\n" ++ hour_lines 0 hours))
 
--- the same, or what is said where nothing starts
-abbrev pub busy_text : List ShownMoment → List ℕ → List ℕ
-busy_text [] hours = codes "no moment: nothing starts\n"
-busy_text (s ∷ ss) hours = busy_lines (s ∷ ss) hours
+-- there is no moment
+unfoldable pub no_moment : Bool → List ℕ
+no_moment is_whole = codes "no moment: " ++ (silence_text is_whole ++ codes "\n")
 
--- ---- what a plan leaves out
+-- the same, or what is said where nothing starts
+abbrev pub busy_text : Bool → List ShownMoment → List ℕ → List ℕ
+busy_text is_whole [] hours = no_moment is_whole
+busy_text is_whole (s ∷ ss) hours = busy_lines (s ∷ ss) hours
+
+-- ---- jobs by their titles and lines, and what a plan leaves out
 
 -- the titles of jobs, and that of the job at a place
 abbrev pub titles_of : List Job → List (List ℕ)
@@ -135,42 +147,6 @@ title_or_none (Some title) = title
 abbrev pub title_at : List (List ℕ) → ℕ → List ℕ
 title_at titles k = title_or_none (slice_get titles k)
 
--- a job of this title that starts too often, as a line
-unfoldable pub left_out_title : List ℕ → List ℕ
-left_out_title title = codes "left out, since it starts too often: " ++ (excerpt excerpt_characters title ++ codes ", ")
-
-unfoldable pub starts_line : ℕ → List ℕ
-starts_line starts = starts_text starts ++ codes "\n"
-
-unfoldable pub left_out_of : List ℕ → ℕ → List ℕ
-left_out_of title starts = left_out_title title ++ starts_line starts
-
-abbrev pub left_out_line : List (List ℕ) → Frequent → List ℕ
-left_out_line titles job = left_out_of (title_at titles job.job) job.starts
-
--- each of these as a line
-unfoldable pub left_out_lines : List (List ℕ) → List Frequent → List ℕ
-left_out_lines titles frequent = flat_map (left_out_line titles) frequent
-
--- where the plan ends before what was asked for
-abbrev pub cut_line : Bool → List ℕ
-cut_line is_cut = if is_cut then codes "the plan ends after " ++ (decimal most_starts ++ codes " starts, before what was asked for\n") else []
-
--- all that a plan leaves out
-abbrev pub left_out_text : Bool → List (List ℕ) → List Frequent → List ℕ
-left_out_text is_cut titles frequent = left_out_lines titles frequent ++ cut_line is_cut
-
--- ---- what starts together
-
--- when these jobs start together first is shown as the clock of a zone has it
-abbrev pub IsShownSet : Zone → ShownSet → Type 0
-IsShownSet z s = IsClockAt z s.set.now.first.second s.first
-
--- the sets of jobs of a plan that start together
-pub record IsTogetherShown (z : Zone) (p : Plan) (shown : List ShownSet) : Type 0 where
-  pub sets : AreTogether p.starts.items (map (λ s. s.set.now) shown)
-  pub each : All (IsShownSet z) shown
-
 -- a job by its file and line
 abbrev pub label_text : Job → List ℕ
 label_text job = job.file.now ++ (codes ":" ++ decimal job.line)
@@ -182,6 +158,45 @@ labels_of jobs = map label_text jobs
 -- that of the job at a place
 abbrev pub label_at : List (List ℕ) → ℕ → List ℕ
 label_at labels k = title_or_none (slice_get labels k)
+
+-- a job that starts too often, as a line: its file and line, its title, and how many starts it has
+unfoldable pub quoted_title : List ℕ → List ℕ
+quoted_title title = codes " " ++ (excerpt excerpt_characters title ++ codes ", ")
+
+unfoldable pub starts_line : ℕ → List ℕ
+starts_line starts = starts_text starts ++ codes "\n"
+
+unfoldable pub left_out_title : List Job → ℕ → List ℕ → List ℕ
+left_out_title jobs k title = codes "left out, since it starts too often: " ++ (label_at (labels_of jobs) k ++ quoted_title title)
+
+abbrev pub left_out_name : List Job → ℕ → List ℕ
+left_out_name jobs k = left_out_title jobs k (title_at (titles_of jobs) k)
+
+unfoldable pub left_out_line : List Job → Frequent → List ℕ
+left_out_line jobs job = left_out_name jobs job.job ++ starts_line job.starts
+
+-- each of these as a line
+unfoldable pub left_out_lines : List Job → List Frequent → List ℕ
+left_out_lines jobs frequent = flat_map (left_out_line jobs) frequent
+
+-- where the plan ends before what was asked for
+abbrev pub cut_line : Bool → List ℕ
+cut_line is_cut = if is_cut then codes "the plan ends after " ++ (decimal most_starts ++ codes " starts, before what was asked for\n") else []
+
+-- all that a plan leaves out
+abbrev pub left_out_text : View → List ℕ
+left_out_text v = left_out_lines v.jobs.now v.frequent.now ++ cut_line v.is_cut
+
+-- ---- what starts together
+
+-- when these jobs start together first is shown as the clock of a zone has it
+abbrev pub IsShownSet : Zone → ShownSet → Type 0
+IsShownSet z s = IsClockAt z s.set.now.first.second s.first
+
+-- the sets of jobs of a plan that start together
+pub record IsTogetherShown (z : Zone) (p : Plan) (shown : List ShownSet) : Type 0 where
+  pub sets : AreTogether p.starts.items (map (λ s. s.set.now) shown)
+  pub each : All (IsShownSet z) shown
 
 -- those of the jobs at these places after the first
 unfoldable pub added_label : List (List ℕ) → ℕ → List ℕ

@@ -9,7 +9,7 @@ use Rattle.cronplan_forms.specs.declared.calendar.event.Event.{Event}
 use Rattle.cronplan_forms.specs.declared.calendar.of_plan.Naming.{Naming}
 use Rattle.cronplan_forms.specs.declared.job.Job.{Job}
 use Rattle.cronplan_forms.specs.declared.view.View.{View}
-use Rattle.cronplan_forms.specs.Answers.{titles_of, left_out_text}
+use Rattle.cronplan_forms.specs.Answers.{left_out_text}
 use Rattle.cronplan_forms.specs.Calendars.{most_events}
 
 -- the clock of a table shows UTC
@@ -33,7 +33,7 @@ pub record IsEventOf (jobs : List Job) (e : Event) : Type 0 where
 -- it is the calendar of a plan, with the events of its first starts
 pub record IsPlanCalendar (v : View) (n : Naming) (c : Calendar) (events : List Event) : Type 0 where
   pub name : c.name.now ≡ n.name.now
-  pub left_out : c.left_out.now ≡ left_out_text v.is_cut (titles_of v.jobs.now) v.frequent.now
+  pub left_out : c.left_out.now ≡ left_out_text v
   pub stamp : c.stamp ≡ n.stamp
   pub lasts : c.lasts ≡ n.lasts
   pub starts : c.starts ≡ length v.plan.now.starts.items

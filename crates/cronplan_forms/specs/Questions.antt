@@ -9,7 +9,7 @@ use Rattle.cronplan_forms.specs.declared.month.Daily.{Daily}
 use Rattle.cronplan_forms.specs.declared.month.Month.{Month}
 use Rattle.cronplan_forms.specs.declared.view.View.{View}
 use Rattle.cronplan_forms.specs.declared.week.Signs.{Signs}
-use Rattle.cronplan_forms.specs.Answers.{IsBusy, busy_text, IsTogetherShown, labels_of, together_text, titles_of, left_out_text}
+use Rattle.cronplan_forms.specs.Answers.{IsBusy, busy_text, IsTogetherShown, labels_of, shows_all, together_text}
 use Rattle.cronplan_forms.specs.Apart.{set_apart}
 use Rattle.cronplan_forms.specs.Months.{months_text}
 use Rattle.cronplan_forms.specs.PlanMonths.{ArePlanMonths}
@@ -24,7 +24,7 @@ asks_none q = is_none q.week && not q.month && is_none q.quiet && is_none q.busy
 
 abbrev pub IsWeekAnswer : View → Option Signs → List ℕ → Type 0
 IsWeekAnswer v None text = text ≡ []
-IsWeekAnswer v (Some signs) text = (week : PlanWeek) × IsPlanWeek v.table.now v.plan.now week × (text ≡ week_text signs week)
+IsWeekAnswer v (Some signs) text = (week : PlanWeek) × IsPlanWeek v.table.now v.plan.now week × (text ≡ week_text signs (shows_all v) week)
 
 abbrev pub IsMonthAnswer : View → Bool → List ℕ → Type 0
 IsMonthAnswer v false text = text ≡ []
@@ -32,12 +32,12 @@ IsMonthAnswer v true text = (months : List Month) × (daily : List Daily) × Are
 
 abbrev pub IsQuietAnswer : View → Option ℕ → List ℕ → Type 0
 IsQuietAnswer v None text = text ≡ []
-IsQuietAnswer v (Some least) text = (told : List ShownWindow) × AreTold (table_zone v.table.now) v.plan.now least told × (text ≡ quiet_text least told)
+IsQuietAnswer v (Some least) text = (told : List ShownWindow) × AreTold (table_zone v.table.now) v.plan.now least told × (text ≡ quiet_text (shows_all v) least told)
 
 abbrev pub IsBusyAnswer : View → Option ℕ → List ℕ → Type 0
 IsBusyAnswer v None text = text ≡ []
 IsBusyAnswer v (Some most) text =
-    (shown : List ShownMoment) × (hours : List ℕ) × IsBusy (table_zone v.table.now) v.plan.now most shown hours × (text ≡ busy_text shown hours)
+    (shown : List ShownMoment) × (hours : List ℕ) × IsBusy (table_zone v.table.now) v.plan.now most shown hours × (text ≡ busy_text (shows_all v) shown hours)
 
 abbrev pub IsTogetherAnswer : View → Bool → List ℕ → Type 0
 IsTogetherAnswer v false text = text ≡ []
@@ -46,7 +46,7 @@ IsTogetherAnswer v true text =
 
 -- ---- all of them
 
--- what a plan leaves out, and its answers
+-- its answers, one below the other
 pub record IsAnswers (v : View) (asked : Questions) (text : List ℕ) : Type 0 where
   pub week : List ℕ
   pub month : List ℕ
@@ -58,5 +58,4 @@ pub record IsAnswers (v : View) (asked : Questions) (text : List ℕ) : Type 0 w
   pub quiet_is : IsQuietAnswer v asked.quiet quiet
   pub busy_is : IsBusyAnswer v asked.busy busy
   pub together_is : IsTogetherAnswer v asked.together together
-  pub text_is : text
-      ≡ set_apart (set_apart (set_apart (set_apart (set_apart (left_out_text v.is_cut (titles_of v.jobs.now) v.frequent.now) week) month) quiet) busy) together
+  pub text_is : text ≡ set_apart (set_apart (set_apart (set_apart week month) quiet) busy) together

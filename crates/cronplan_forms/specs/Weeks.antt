@@ -2,7 +2,7 @@
 use Rattle.std.specs.Prelude.{◌≡◌, ℕ, ℤ, pos, ◌+◌, ◌==◌, ◌+ℤ◌, int_lt, nat_lt, Bool, List, [], ◌∷◌, ◌++◌, codes, map, take, Option, Some, None, if◌then◌else◌}
 use Rattle.std.specs.Fmt.{decimal}
 use Rattle.std.specs.Int.{saturate_signed}
-use Rattle.std.specs.List.{All, flat_map}
+use Rattle.std.specs.List.{All, flat_map, list_any}
 use mir.Syntax.{w64}
 use Rattle.croner_base.specs.declared.time.table.ClockTable.{ClockTable}
 use Rattle.croner_base.specs.TableZone.{table_zone}
@@ -61,9 +61,9 @@ abbrev pub step_sign : Signs → ℕ → List ℕ
 step_sign signs.Blocks n = block_of n
 step_sign signs.Digits n = digit_of n
 
--- the sign of an hour: an x where the clock skips it
+-- the sign of an hour: an x where the clock skips it, and a dash where the plan doesn't have it
 abbrev pub sign_of : Signs → HourCell → List ℕ
-sign_of s cell = if cell.skipped then codes "x" else step_sign s cell.starts
+sign_of s cell = if cell.skipped then codes "x" else if cell.outside then codes "-" else step_sign s cell.starts
 
 -- ---- rows
 
@@ -104,14 +104,33 @@ step_text s least = step_sign s least ++ (codes "=" ++ (decimal least ++ codes "
 unfoldable pub steps_text : Signs → List ℕ → List ℕ
 steps_text s steps = flat_map (step_text s) steps
 
+-- an hour of a date is one that the clock skips; it is one that the plan doesn't have
+abbrev pub has_skipped : WeekDay → Bool
+has_skipped d = list_any (λ cell. cell.skipped) d.day.now.hours.items
+
+abbrev pub has_outside : WeekDay → Bool
+has_outside d = list_any (λ cell. cell.outside) d.day.now.hours.items
+
+-- what these signs mean, where they stand in a picture
+abbrev pub skipped_line : Bool → List ℕ
+skipped_line has_one = if has_one then codes "x: the clock skips the hour\n" else []
+
+abbrev pub outside_line : Bool → List ℕ
+outside_line has_one = if has_one then codes "-: not in the plan\n" else []
+
 -- what the signs mean
-unfoldable pub legend_text : Signs → List ℕ
-legend_text s =
-    steps_text s (0 ∷ 1 ∷ 2 ∷ 4 ∷ 8 ∷ 16 ∷ 32 ∷ 64 ∷ 128 ∷ []) ++ codes "starts in an hour, or more\nx: the clock skips the hour\n"
+unfoldable pub legend_text : Signs → Bool → Bool → List ℕ
+legend_text s skipped outside =
+    steps_text s (0 ∷ 1 ∷ 2 ∷ 4 ∷ 8 ∷ 16 ∷ 32 ∷ 64 ∷ 128 ∷ [])
+    ++ (codes "starts in an hour, or more\n" ++ (skipped_line skipped ++ outside_line outside))
+
+-- the same of the signs of these dates
+abbrev pub legend_of : Signs → List WeekDay → List ℕ
+legend_of s days = legend_text s (list_any has_skipped days) (list_any has_outside days)
 
 -- the rows of a picture, and what the signs mean
 unfoldable pub picture_text : Signs → List WeekDay → List ℕ
-picture_text s days = head_text ++ (rows_text s days ++ legend_text s)
+picture_text s days = head_text ++ (rows_text s days ++ legend_of s days)
 
 -- ---- changes of the clock
 
@@ -175,5 +194,5 @@ pub record IsPlanWeek (table : ClockTable) (p : Plan) (week : PlanWeek) : Type 0
   pub windows_are : AreTold (table_zone table) p least_longest week.windows
 
 -- the picture, and below it the changes and the longest windows
-abbrev pub week_text : Signs → PlanWeek → List ℕ
-week_text s week = picture_text s week.rows ++ (change_lines week.changes ++ longest_text (take most_longest (window_runs week.windows)))
+abbrev pub week_text : Signs → Bool → PlanWeek → List ℕ
+week_text s is_whole week = picture_text s week.rows ++ (change_lines week.changes ++ longest_text is_whole (take most_longest (window_runs week.windows)))

@@ -1,9 +1,10 @@
 -- Windows that come again from day to day, in one line. Source: this crate's documentation of `quiet_text`.
-use Rattle.std.specs.Prelude.{◌==◌, ◌&&◌, ◌||◌, ℕ, ℤ, pos, ◌+ℤ◌, not, Bool, List, [], ◌∷◌, ◌++◌, codes, length, ◌-◌, slice_get, Option, Some, None, if◌then◌else◌}
-use Rattle.std.specs.List.{flat_map}
-use Rattle.std.specs.List.Sorted.{IsPermutation, IsSorted}
+use Rattle.std.specs.Prelude.{◌≡◌, ⊤, true, ◌==◌, ◌&&◌, ◌||◌, ℕ, ℤ, pos, ◌+ℤ◌, not, Bool, List, [], ◌∷◌, ◌++◌, codes, length, ◌-◌, slice_get, Option, Some, None, if◌then◌else◌}
+use Rattle.std.specs.List.{AllPairs, flat_map}
+use Rattle.std.specs.List.Sorted.{IsPermutation}
 use Rattle.std.specs.Ordering.{int_cmp, int_eq, nat_cmp, ordering_then}
 use Rattle.std.specs.declared.cmp.Ordering.{Ordering}
+use Rattle.std.specs.declared.cmp.Ordering.TheVariants.{Less}
 use Rattle.croner_base.specs.Civil.{wall_second, weekday_index}
 use Rattle.croner_base.specs.CivilText.{date_text, time_text}
 use Rattle.croner_base.specs.Zone.{Zone}
@@ -11,7 +12,7 @@ use Rattle.cronplan.specs.declared.plan.Plan.{Plan}
 use Rattle.cronplan.specs.Windows.{seconds_in}
 use Rattle.cronplan_forms.specs.declared.answers.quiet.ShownWindow.{ShownWindow}
 use Rattle.cronplan_forms.specs.declared.clock.ClockTime.{ClockTime}
-use Rattle.cronplan_forms.specs.Answers.{IsQuiet, is_at_edge, window_line, quiet_head}
+use Rattle.cronplan_forms.specs.Answers.{IsQuiet, is_at_edge, window_line, quiet_head, silence_text}
 use Rattle.cronplan_forms.specs.Clocks.{ahead_text, lasting_text, second_of_day, weekday_text}
 use Rattle.cronplan_forms.specs.DateNames.{date_of_wall}
 
@@ -41,12 +42,12 @@ told_cmp s t =
     ordering_then (ordering_then (nat_cmp (seconds_in t.window) (seconds_in s.window)) (nat_cmp (shown_second s.from) (shown_second t.from)))
     (int_cmp s.window.from.second t.window.from.second)
 
--- the windows of a plan that are so long at least, in that order
+-- the windows of a plan that are so long at least, each once, in that order
 pub record AreTold (z : Zone) (p : Plan) (least : ℕ) (told : List ShownWindow) : Type 0 where
   pub shown : List ShownWindow
   pub are_quiet : IsQuiet z p least shown
   pub same : IsPermutation shown told
-  pub order : IsSorted told_cmp told
+  pub order : AllPairs (λ s t. told_cmp s t ≡ Less) told
 
 -- ---- runs
 
@@ -77,6 +78,12 @@ before_runs s ((t ∷ ts) ∷ runs) = if comes_again s t then (s ∷ t ∷ ts) �
 abbrev pub window_runs : List ShownWindow → List (List ShownWindow)
 window_runs [] = []
 window_runs (s ∷ ss) = before_runs s (window_runs ss)
+
+-- windows that a line may tell of: there is one, and each is the one before it a day later
+abbrev pub IsRun : List ShownWindow → Type 0
+IsRun [] = ⊥
+IsRun (s ∷ []) = ⊤
+IsRun (s ∷ t ∷ ts) = (comes_again s t ≡ true) × IsRun (t ∷ ts)
 
 -- ---- lines
 
@@ -116,8 +123,8 @@ unfoldable pub run_lines : List (List ShownWindow) → List ℕ
 run_lines runs = flat_map run_line runs
 
 -- what is told of the windows that are so long at least
-abbrev pub quiet_text : ℕ → List ShownWindow → List ℕ
-quiet_text least told = quiet_head (length told == 0) least ++ run_lines (window_runs told)
+abbrev pub quiet_text : Bool → ℕ → List ShownWindow → List ℕ
+quiet_text is_whole least told = quiet_head (length told == 0) is_whole least ++ run_lines (window_runs told)
 
 -- so many seconds a window has at least that is told below a picture
 abbrev pub least_longest : ℕ
@@ -128,10 +135,13 @@ abbrev pub most_longest : ℕ
 most_longest = 5
 
 -- the lines of runs, and what stands in front of them
-unfoldable pub some_longest : List (List ShownWindow) → List ℕ
-some_longest runs = codes "longest windows in which nothing starts:\n" ++ run_lines runs
+unfoldable pub longest_head : Bool → List ℕ
+longest_head is_whole = codes "longest windows in which " ++ (silence_text is_whole ++ codes ":\n")
+
+unfoldable pub some_longest : Bool → List (List ShownWindow) → List ℕ
+some_longest is_whole runs = longest_head is_whole ++ run_lines runs
 
 -- the same; nothing where there is none
-abbrev pub longest_text : List (List ShownWindow) → List ℕ
-longest_text [] = []
-longest_text (run ∷ runs) = some_longest (run ∷ runs)
+abbrev pub longest_text : Bool → List (List ShownWindow) → List ℕ
+longest_text is_whole [] = []
+longest_text is_whole (run ∷ runs) = some_longest is_whole (run ∷ runs)

@@ -5,6 +5,7 @@ mod left_out;
 mod questions;
 mod quiet;
 mod runs;
+mod silence;
 mod together;
 
 pub(crate) use busy::Starts;

@@ -1,4 +1,6 @@
 //! What the forms of a plan show.
+ghost use Rattle.std.specs.Prelude.{◌≡◌};
+ghost use Rattle.cronplan_forms.specs.Answers.{shows_all};
 
 use crate::job::Job;
 use croner_base::time::table::ClockTable;
@@ -18,4 +20,13 @@ pub struct View<'v> {
     pub frequent: &'v [Frequent],
     /// Whether the plan ends earlier than was asked for, because it keeps no more starts.
     pub is_cut: bool,
+}
+
+impl View<'_> {
+    // Whether all jobs are shown: none starts too often.
+    pub(crate) fn shows_all(&self) -> bool
+        ensures { result ≡ shows_all self.now }
+    {
+        self.frequent.is_empty()
+    }
 }

@@ -1,8 +1,9 @@
 //! The dates of a plan as a picture of text, 80 columns wide: a row a day, a cell an hour.
 ghost use Rattle.std.specs.Prelude.{◌≡◌, ◌++◌, ◌<◌, IfOk, OnOk, string_bytes, codes, map};
-ghost use Rattle.std.specs.List.{All};
+ghost use Rattle.std.specs.List.{All, list_any};
 ghost use Rattle.cronplan_forms.specs.Clocks.{second_of_day};
-ghost use Rattle.cronplan_forms.specs.Weeks.{block_of, digit_of, step_sign, sign_of, cells_text, moment_text, fullest_text, total_text, row_text, rows_text, head_text, legend_text, steps_text, step_text, picture_text, week_text, IsNamedDay, IsPlanWeek, PlanWeek};
+ghost use Rattle.cronplan_forms.specs.Answers.{shows_all};
+ghost use Rattle.cronplan_forms.specs.Weeks.{block_of, digit_of, step_sign, sign_of, cells_text, moment_text, fullest_text, has_outside, has_skipped, outside_line, skipped_line, total_text, row_text, rows_text, head_text, legend_of, legend_text, steps_text, step_text, picture_text, week_text, IsNamedDay, IsPlanWeek, PlanWeek};
 
 mod changes;
 
@@ -36,10 +37,10 @@ const STEPS: [u64; 9] = [0, 1, 2, 4, 8, 16, 32, 64, 128];
 /// The picture of a plan: a row a date, and what the signs mean; below a line for each change of the clock, and the longest windows of an hour
 /// or more in which nothing starts, as `quiet_text` tells them, in five lines at most.
 ///
-/// A sign stands for the number of starts in an hour, in doubling steps; an hour that the clock skips is an `x`. The only error is lack of
-/// memory.
+/// A sign stands for the number of starts in an hour, in doubling steps; an hour that the clock skips is an `x`, and one that the plan doesn't
+/// have a dash. The only error is lack of memory.
 pub fn week_text(alloc: Global, view: View<'_>, signs: Signs) -> Result<String, AllocError>
-    ensures { IfOk result (λ t. (week : PlanWeek) × IsPlanWeek view.entry.table.now view.entry.plan.now week × (string_bytes t ≡ week_text signs week)) }
+    ensures { IfOk result (λ t. (week : PlanWeek) × IsPlanWeek view.entry.table.now view.entry.plan.now week × (string_bytes t ≡ week_text signs (shows_all view.entry) week)) }
 {
     let days = view.plan.days(alloc, view.table)?;
     let rows = rows_of(alloc, days.days.as_slice())?;
@@ -49,7 +50,7 @@ pub fn week_text(alloc: Global, view: View<'_>, signs: Signs) -> Result<String, 
     let mut text = String::new(alloc);
     push_picture(&mut text, rows.as_slice(), signs)?;
     push_changes(&mut text, changes.as_slice())?;
-    push_longest(&mut text, runs.as_slice())?;
+    push_longest(&mut text, runs.as_slice(), view.shows_all())?;
     Ok(text)
 }
 
@@ -82,7 +83,7 @@ fn push_picture(text: &mut String, days: &[WeekDay<'_>], signs: Signs) -> Result
 {
     push_head(text)?;
     push_rows(text, days, signs)?;
-    push_legend(text, signs)
+    push_legend_of(text, days, signs)
 }
 
 #[tactic(auto, unfolding(crate::specs::Weeks::head_text))]
@@ -140,6 +141,9 @@ fn sign_of(cell: HourCell, signs: Signs) -> &'static str
 {
     if cell.skipped {
         return "x";
+    }
+    if cell.outside {
+        return "-";
     }
     step_sign(cell.starts, signs)
 }
@@ -230,13 +234,90 @@ fn time_of(moment: Moment) -> u64
     second_of_day(moment.wall)
 }
 
-// Appends to a text what the signs mean.
+// Appends to a text what the signs of these dates mean.
+fn push_legend_of(text: &mut String, days: &[WeekDay<'_>], signs: Signs) -> Result<(), AllocError>
+    ensures { OnOk result (string_bytes text.new ≡ string_bytes text.old ++ legend_of signs days.now) }
+{
+    push_legend(text, signs, any_skipped(days), any_outside(days))
+}
+
+// Appends to a text what the signs mean, where these two stand too.
 #[tactic(auto, unfolding(crate::specs::Weeks::legend_text))]
-fn push_legend(text: &mut String, signs: Signs) -> Result<(), AllocError>
-    ensures { OnOk result (string_bytes text.new ≡ string_bytes text.old ++ legend_text signs) }
+fn push_legend(
+    text: &mut String,
+    signs: Signs,
+    skipped: bool,
+    outside: bool,
+) -> Result<(), AllocError>
+    ensures { OnOk result (string_bytes text.new ≡ string_bytes text.old ++ legend_text signs skipped outside) }
 {
     push_steps(text, &STEPS, signs)?;
-    text.push_str("starts in an hour, or more\nx: the clock skips the hour\n")
+    text.push_str("starts in an hour, or more\n")?;
+    push_marks(text, skipped, outside)
+}
+
+// Appends to a text what the signs mean that aren't numbers of starts, where they stand.
+fn push_marks(text: &mut String, skipped: bool, outside: bool) -> Result<(), AllocError>
+    ensures { OnOk result (string_bytes text.new ≡ string_bytes text.old ++ (skipped_line skipped ++ outside_line outside)) }
+{
+    text.push_str(skipped_line(skipped))?;
+    text.push_str(outside_line(outside))
+}
+
+// What the sign of an hour that the clock skips means, where there is one.
+fn skipped_line(has_one: bool) -> &'static str
+    ensures { result.now ≡ skipped_line has_one }
+{
+    if has_one {
+        "x: the clock skips the hour\n"
+    } else {
+        ""
+    }
+}
+
+// What the sign of an hour that the plan doesn't have means, where there is one.
+fn outside_line(has_one: bool) -> &'static str
+    ensures { result.now ≡ outside_line has_one }
+{
+    if has_one { "-: not in the plan\n" } else { "" }
+}
+
+fn any_skipped(days: &[WeekDay<'_>]) -> bool
+    ensures { result ≡ list_any has_skipped days.now }
+{
+    days.iter().any(|day| has_skipped(day))
+}
+
+fn any_outside(days: &[WeekDay<'_>]) -> bool
+    ensures { result ≡ list_any has_outside days.now }
+{
+    days.iter().any(|day| has_outside(day))
+}
+
+// Whether an hour of a date is one that the clock skips.
+fn has_skipped(day: &WeekDay<'_>) -> bool
+    ensures { result ≡ has_skipped day.now }
+{
+    day.day.hours.iter().any(|cell| is_skipped(cell))
+}
+
+// Whether an hour of a date is one that the plan doesn't have.
+fn has_outside(day: &WeekDay<'_>) -> bool
+    ensures { result ≡ has_outside day.now }
+{
+    day.day.hours.iter().any(|cell| is_outside(cell))
+}
+
+fn is_skipped(cell: &HourCell) -> bool
+    ensures { result ≡ cell.now.skipped }
+{
+    cell.skipped
+}
+
+fn is_outside(cell: &HourCell) -> bool
+    ensures { result ≡ cell.now.outside }
+{
+    cell.outside
 }
 
 #[tactic(auto, using(crate::proofs::WeekParts::steps_step), unfolding(crate::specs::Weeks::steps_text))]

@@ -97,14 +97,18 @@ a_window from until from_second from_ahead from_text until_second until_ahead un
 
 -- an hour that the clock skips, and one that it shows
 abbrev skipped : HourCell
-skipped = record { starts = 0; skipped = true; repeated = false }
+skipped = record { starts = 0; skipped = true; repeated = false; outside = false }
 
 abbrev shown : HourCell
-shown = record { starts = 2; skipped = false; repeated = false }
+shown = record { starts = 2; skipped = false; repeated = false; outside = false }
 
-two_hours : compact_text (array (items_of (map hour_data (shown ∷ skipped ∷ [])))) ≡ codes "[2,null]"
+-- one that the plan doesn't have
+abbrev outside : HourCell
+outside = record { starts = 0; skipped = false; repeated = false; outside = true }
+
+three_hours : compact_text (array (items_of (map hour_data (shown ∷ skipped ∷ outside ∷ [])))) ≡ codes "[2,null,null]"
 unfolding serde_json_on_literals digits
-two_hours = refl
+three_hours = refl
 
 a_date : (d : WeekDay) → date_data d.name.civil ≡ string (codes "2027-03-28") → d.day.now.hours.items ≡ shown ∷ skipped ∷ [] → d.day.now.starts ≡ 2
     → compact_text (day_object d) ≡ codes "{\"date\":\"2027-03-28\",\"hours\":[2,null],\"starts\":2}"

@@ -1,5 +1,5 @@
 -- The object of a plan has no float, so that its text is known.
-use Rattle.std.proofs.Common.{◌≡◌, ◌∙◌, ℕ, suc, ℤ, pos, negsuc, List, [], ◌∷◌, Bool, true, false, if◌then◌else◌, Option, Some, None, map, ap, refl}
+use Rattle.std.proofs.Common.{◌≡◌, ◌∙◌, ℕ, suc, ℤ, pos, negsuc, List, [], ◌∷◌, ◌||◌, Bool, true, false, if◌then◌else◌, Option, Some, None, map, ap, refl}
 use Rattle.std.specs.Prelude.{is_some}
 use Rattle.croner_base.specs.declared.time.civil.CivilDateTime.{CivilDateTime}
 use Rattle.cronplan.specs.declared.days.HourCell.{HourCell}
@@ -63,7 +63,7 @@ windows_whole [] = refl
 windows_whole (s ∷ ss) = rw (window_whole s) (windows_whole ss)
 
 hour_whole : (cell : HourCell) → has_float (hour_data cell) ≡ false
-hour_whole cell = at cell.skipped where
+hour_whole cell = at (cell.skipped || cell.outside) where
   at : (b : Bool) → has_float (if b then null else count cell.starts) ≡ false
   at true = refl
   at false = refl

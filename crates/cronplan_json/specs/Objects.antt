@@ -1,6 +1,6 @@
 -- What stands in the JSON of a plan of its seconds, jobs, moments, windows and dates. The members of an object stand in the order of their
 -- names. Source: this crate's documentation.
-use Rattle.std.specs.Prelude.{ℕ, suc, ℤ, ◌==◌, Bool, List, [], ◌∷◌, ◌++◌, codes, map, sum_by, if◌then◌else◌, Option, Some, None, is_some, unwrap_or}
+use Rattle.std.specs.Prelude.{ℕ, suc, ℤ, ◌==◌, ◌||◌, Bool, List, [], ◌∷◌, ◌++◌, codes, map, sum_by, if◌then◌else◌, Option, Some, None, is_some, unwrap_or}
 use Rattle.serde_json.specs.Data.{Data, Members, null, boolean, number, unsigned, string, array, object, member, no_members, put}
 use Rattle.serde_json.specs.Find.{of_integer}
 use Rattle.serde_json.specs.View.{items_of}
@@ -130,9 +130,9 @@ abbrev pub date_data : Option CivilDateTime → Data
 date_data None = null
 date_data (Some c) = string (date_text c.date.year c.date.month c.date.day)
 
--- an hour: how many starts there are in it, or null where the clock skips it
+-- an hour: how many starts there are in it, or null where the clock skips it or the plan doesn't have it
 abbrev pub hour_data : HourCell → Data
-hour_data cell = if cell.skipped then null else count cell.starts
+hour_data cell = if cell.skipped || cell.outside then null else count cell.starts
 
 -- a date: which it is, its hours, and how many starts it has
 abbrev pub day_object : WeekDay → Data

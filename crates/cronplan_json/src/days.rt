@@ -110,7 +110,7 @@ fn cell_items(alloc: Global, cells: &[HourCell]) -> Result<Vec<Value>, AllocErro
 fn hour_value(cell: HourCell) -> Value
     ensures { view result ≡ hour_data cell }
 {
-    if cell.skipped {
+    if cell.skipped || cell.outside {
         Value::Null
     } else {
         Value::from(cell.starts)

@@ -55,14 +55,14 @@ none_in_an_hour : count_text (codes "t ") 0 ≡ codes "<td class=\"t s0\"></td>"
 unfolding count_text
 none_in_an_hour = refl
 
--- one that the clock skips, one that it shows twice, and another
+-- one that the clock skips, one that it shows twice, one that isn't in the plan, and another
 abbrev hour : HourCell
-hour = record { starts = 3; skipped = false; repeated = false }
+hour = record { starts = 3; skipped = false; repeated = false; outside = false }
 
 hours : (cell_text (record hour { skipped = true }) ≡ codes "<td class=\"x\">x</td>") × (cell_text (record hour { repeated = true }) ≡ codes "<td class=\"t s2\">3</td>")
-    × (cell_text hour ≡ codes "<td class=\"s2\">3</td>")
+    × (cell_text (record hour { outside = true }) ≡ codes "<td class=\"x\">-</td>") × (cell_text hour ≡ codes "<td class=\"s2\">3</td>")
 unfolding count_text piece_text digits
-hours = (refl, refl, refl)
+hours = (refl, refl, refl, refl)
 
 -- ---- windows and lines of time
 

@@ -36,4 +36,4 @@ moment_lines jobs starts moments = flat_map (moment_line jobs starts) moments
 -- their section
 unfoldable pub fullest_text : List Job → List JobStart → List TimedMoment → List ℕ
 fullest_text jobs starts moments =
-    piece_text pieces.FullestHeading ++ list_of (length moments == 0) pieces.NoStart (moment_lines jobs starts moments)
+    piece_text pieces.FullestHeading ++ list_of (length moments == 0) pieces.NoMoment (moment_lines jobs starts moments)

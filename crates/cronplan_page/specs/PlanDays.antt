@@ -33,7 +33,7 @@ day_head d =
 -- a day: those, and its starts, which open where they are asked for
 unfoldable pub day_text : List Job → List TimedStart → NamedDay → List ℕ
 day_text jobs starts d =
-    day_head d ++ (list_of (d.day.now.starts == 0) pieces.NoStart (starts_on jobs d.day.now.date starts) ++ piece_text pieces.DayEnd)
+    day_head d ++ (list_of (d.day.now.starts == 0) pieces.NoMoment (starts_on jobs d.day.now.date starts) ++ piece_text pieces.DayEnd)
 
 -- some days
 unfoldable pub day_texts : List Job → List TimedStart → List NamedDay → List ℕ

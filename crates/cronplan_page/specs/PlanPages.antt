@@ -1,7 +1,6 @@
 -- The page of a plan, as what it tells is found. Source: this crate's documentation.
 use Rattle.std.specs.Prelude.{◌≡◌, ℕ, List, take}
-use Rattle.std.specs.List.Sorted.{IsSortedByKey}
-use Rattle.std.specs.Ordering.{nat_cmp}
+use Rattle.std.specs.List.Sorted.{IsSorted}
 use Rattle.croner_base.specs.declared.time.table.ClockTable.{ClockTable}
 use Rattle.croner_base.specs.TableZone.{table_zone}
 use Rattle.croner_base.specs.Zone.{Zone}
@@ -12,7 +11,7 @@ use Rattle.cronplan.specs.declared.plan.Plan.{Plan}
 use Rattle.cronplan.specs.declared.windows.Window.{Window}
 use Rattle.cronplan.specs.Days.{AreDays}
 use Rattle.cronplan.specs.Moments.{AreFullest}
-use Rattle.cronplan.specs.Windows.{AreWindows, seconds_in}
+use Rattle.cronplan.specs.Windows.{AreWindows, longest_cmp}
 use Rattle.cronplan_forms.specs.declared.view.View.{View}
 use Rattle.cronplan_forms.specs.Clocks.{IsClockAt}
 use Rattle.cronplan_page.specs.declared.about.About.{About}
@@ -35,7 +34,7 @@ most_fullest = 5
 pub record AreLongest (z : Zone) (plan : Plan) (quiet : List TimedWindow) : Type 0 where
   pub windows : List Window
   pub are_windows : AreWindows plan.starts.items plan.span 1 windows
-  pub longest : IsSortedByKey seconds_in (λ (a : ℕ). λ (b : ℕ). nat_cmp b a) windows
+  pub order : IsSorted longest_cmp windows
   pub timed : AreTimedWindows z (take most_quiet windows) quiet
 
 -- its fullest moments

@@ -35,9 +35,12 @@ count_text class n =
 abbrev pub class_of : Bool → List ℕ
 class_of repeated = if repeated then codes "t " else []
 
--- an hour: a cross where the clock skips it
+-- an hour: a cross where the clock skips it, and a dash where the plan doesn't have it
 abbrev pub cell_text : HourCell → List ℕ
-cell_text cell = if cell.skipped then piece_text pieces.SkippedCell else count_text (class_of cell.repeated) cell.starts
+cell_text cell =
+    if cell.skipped then piece_text pieces.SkippedCell
+    else if cell.outside then piece_text pieces.OutsideCell
+    else count_text (class_of cell.repeated) cell.starts
 
 -- the hours of a day
 unfoldable pub cells_text : List HourCell → List ℕ

@@ -52,7 +52,7 @@ fn push_day(
 {
     let is_empty = day.day.starts == 0;
     push_day_head(out, day)?;
-    push_list_begin(out, is_empty, Piece::NoStart)?;
+    push_list_begin(out, is_empty, Piece::NoMoment)?;
     push_starts_on(out, jobs, day.day.date, starts)?;
     push_list_end(out, is_empty)?;
     push_piece(out, Piece::DayEnd)

@@ -22,7 +22,7 @@ pub(crate) fn push_fullest(
     ensures { OnOk result (string_bytes out.new ≡ string_bytes out.old ++ fullest_text jobs.now starts.now moments.now) }
 {
     push_piece(out, Piece::FullestHeading)?;
-    push_list_begin(out, moments.is_empty(), Piece::NoStart)?;
+    push_list_begin(out, moments.is_empty(), Piece::NoMoment)?;
     push_moments(out, jobs, starts, moments)?;
     push_list_end(out, moments.is_empty())
 }

@@ -47,6 +47,7 @@ pub(crate) enum Piece {
     JobsHeading,
     // The text in place of an empty list.
     NoWindow,
+    NoMoment,
     NoStart,
     NoChange,
     NoWarning,
@@ -68,6 +69,8 @@ pub(crate) enum Piece {
     TooFrequent,
     // An hour that the clock skips.
     SkippedCell,
+    // An hour that the plan doesn't have.
+    OutsideCell,
     // A picture with its caption.
     Figure,
     Caption,
@@ -121,7 +124,8 @@ fn text_of_piece(piece: Piece) -> &'static str
         Piece::ItemEnd => "</li>\n",
         Piece::IgnoredHeading => "<h2>Cron ignores</h2>\n",
         Piece::FrequentHeading => "<h2>Not shown, since they start too often</h2>\n",
-        Piece::QuietHeading => "<h2>Longest quiet windows</h2>\n",
+        Piece::QuietHeading =>
+            "<h2>Longest quiet windows</h2>\n<p>None of the jobs shown starts in between.</p>\n",
         Piece::FullestHeading => "<h2>Fullest moments</h2>\n",
         Piece::WeekHeading => "<h2>Starts by hour</h2>\n",
         Piece::LinesHeading =>
@@ -129,12 +133,13 @@ fn text_of_piece(piece: Piece) -> &'static str
         Piece::DaysHeading => "<h2>Day by day</h2>\n",
         Piece::JobsHeading => "<h2>Jobs</h2>\n",
         Piece::NoWindow => "<p>There is none.</p>\n",
+        Piece::NoMoment => "<p>None of the jobs shown starts.</p>\n",
         Piece::NoStart => "<p>Nothing starts.</p>\n",
         Piece::NoChange => "<p>The clock goes on evenly in these days.</p>\n",
         Piece::NoWarning => "<p>None.</p>\n",
         Piece::WeekTable => week_table(),
         Piece::WeekKey =>
-            "<p>Each hour has a number, how many starts it has. An x stands where the clock skips the hour, and a broken line around an hour that it shows twice.</p>\n",
+            "<p>Each hour has a number, how many starts it has. An x stands where the clock skips the hour, a dash where the hour isn't in the plan, and a broken line around an hour that the clock shows twice.</p>\n",
         Piece::JobsTable =>
             "<div class=\"wide\">\n<table>\n<tr><th scope=\"col\">Job</th><th scope=\"col\">When</th><th scope=\"col\">Line</th><th scope=\"col\">Starts</th><th scope=\"col\">Next</th><th scope=\"col\">Beware</th></tr>\n",
         Piece::TableEnd => "</table>\n</div>\n",
@@ -146,6 +151,7 @@ fn text_of_piece(piece: Piece) -> &'static str
         Piece::Number => "<td class=\"n\">",
         Piece::TooFrequent => "<td><p>It starts too often.</p></td>",
         Piece::SkippedCell => "<td class=\"x\">x</td>",
+        Piece::OutsideCell => "<td class=\"x\">-</td>",
         Piece::Figure => "<figure><figcaption><b>",
         Piece::Caption => "</b> ",
         Piece::Picture =>

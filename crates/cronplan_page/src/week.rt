@@ -72,6 +72,9 @@ fn push_cell(out: &mut String, cell: HourCell) -> Result<(), AllocError>
     if cell.skipped {
         return push_piece(out, Piece::SkippedCell);
     }
+    if cell.outside {
+        return push_piece(out, Piece::OutsideCell);
+    }
     push_count(out, class_of(cell.repeated), cell.starts)
 }
 

@@ -4,7 +4,7 @@ use Rattle.std.proofs.Common.{◌≡◌, true, false, Some, None, refl}
 use Rattle.std.specs.Prelude.{codes}
 use Rattle.crontab.specs.declared.line.Fault.TheVariants as faults
 use Rattle.crontab.specs.declared.notes.Note.TheVariants as notes
-use Rattle.crontab.specs.Line.{minute_place, hour_place, month_place, weekday_place}
+use Rattle.crontab.specs.Line.{minute_bounds, hour_bounds, month_bounds, weekday_bounds}
 use Rattle.crontab.specs.Notes.{is_noted, has_passed_over, has_large_number, looks_like_weekdays, has_other_name}
 
 -- a day field that begins with a star
@@ -21,19 +21,19 @@ a_star_day_after_a_nickname : is_noted notes.StarDay None (codes "@daily a */2 b
 a_star_day_after_a_nickname = refl
 
 -- bytes of a field that are passed over
-a_sign_of_an_nth_weekday : has_passed_over weekday_place (codes "1#2") ≡ true
+a_sign_of_an_nth_weekday : has_passed_over weekday_bounds (codes "1#2") ≡ true
 a_sign_of_an_nth_weekday = refl
 
-two_steps : has_passed_over minute_place (codes "*/2/3") ≡ true
+two_steps : has_passed_over minute_bounds (codes "*/2/3") ≡ true
 two_steps = refl
 
-a_star_and_a_number : has_passed_over minute_place (codes "*5") ≡ true
+a_star_and_a_number : has_passed_over minute_bounds (codes "*5") ≡ true
 a_star_and_a_number = refl
 
-a_part_of_three : has_passed_over minute_place (codes "1,2-4~,5") ≡ true
+a_part_of_three : has_passed_over minute_bounds (codes "1,2-4~,5") ≡ true
 a_part_of_three = refl
 
-parts_alone : has_passed_over hour_place (codes "1-5,9,*/2") ≡ false
+parts_alone : has_passed_over hour_bounds (codes "1-5,9,*/2") ≡ false
 parts_alone = refl
 
 -- a star among parts
@@ -91,23 +91,23 @@ a_path : looks_like_weekdays (codes "/bin/x") ≡ false
 a_path = refl
 
 -- names of another field
-a_weekday_for_a_month : has_other_name month_place (codes "MON") ≡ true
+a_weekday_for_a_month : has_other_name month_bounds (codes "MON") ≡ true
 a_weekday_for_a_month = refl
 
-a_month_for_a_month : has_other_name month_place (codes "JAN-mar") ≡ false
+a_month_for_a_month : has_other_name month_bounds (codes "JAN-mar") ≡ false
 a_month_for_a_month = refl
 
 -- numbers of 2^32 or more
-a_number_of_33_bits : has_large_number minute_place (codes "4294967297") ≡ true
+a_number_of_33_bits : has_large_number minute_bounds (codes "4294967297") ≡ true
 a_number_of_33_bits = refl
 
-a_step_of_33_bits : has_large_number minute_place (codes "*/4294967311") ≡ true
+a_step_of_33_bits : has_large_number minute_bounds (codes "*/4294967311") ≡ true
 a_step_of_33_bits = refl
 
-the_longest_step : has_large_number minute_place (codes "*/2147483647") ≡ false
+the_longest_step : has_large_number minute_bounds (codes "*/2147483647") ≡ false
 the_longest_step = refl
 
-a_number_that_is_passed_over : has_large_number minute_place (codes "5#4294967297") ≡ false
+a_number_that_is_passed_over : has_large_number minute_bounds (codes "5#4294967297") ≡ false
 a_number_that_is_passed_over = refl
 
 -- empty parts

@@ -2,7 +2,7 @@
 use Rattle.std.proofs.Common.{◌≡◌, ◌<◌, ◌+◌, ◌∙◌, ◌==◌, ℕ, List, [], ◌∷◌, ◌++◌, Option, Some, None, Bool, true, false, if◌then◌else◌, option_map, length, drop, get_or, ap, sym, refl, arith}
 use Rattle.std.proofs.lemmas.List.{at_drop_more, at_drop_all, append_assoc, append-nil}
 use Rattle.crontab.specs.declared.field.Part.{Part}
-use Rattle.crontab.specs.declared.field.Place.{Place}
+use Rattle.crontab.specs.declared.field.FieldBounds.{FieldBounds}
 use Rattle.crontab.specs.Bytes.{begins_with}
 use Rattle.crontab.specs.Field.{part_of}
 use Rattle.crontab.specs.List.{joined, parts_of_pieces}
@@ -16,15 +16,15 @@ follows_first None = refl
 follows_first (Some parts) = refl
 
 -- the next piece was read
-pub follows_piece : (place : Place) (pieces : List (List ℕ)) (n : ℕ) (piece : List ℕ) (whole : Option (List Part)) (read : List Part)
-    (found : Option (Part × List ℕ)) → n < length pieces → piece ≡ get_or pieces n piece → part_of place piece ≡ found
-    → Follows whole read (parts_of_pieces place (drop n pieces))
-    → Follows whole read (joined found (parts_of_pieces place (drop (n + 1) pieces)))
-follows_piece place pieces n piece whole read found within is e h =
+pub follows_piece : (bounds : FieldBounds) (pieces : List (List ℕ)) (n : ℕ) (piece : List ℕ) (whole : Option (List Part)) (read : List Part)
+    (found : Option (Part × List ℕ)) → n < length pieces → piece ≡ get_or pieces n piece → part_of bounds piece ≡ found
+    → Follows whole read (parts_of_pieces bounds (drop n pieces))
+    → Follows whole read (joined found (parts_of_pieces bounds (drop (n + 1) pieces)))
+follows_piece bounds pieces n piece whole read found within is e h =
     h ∙ ap (λ o. option_map (λ parts. read ++ parts) o)
-    (at_drop_more (parts_of_pieces place) pieces n piece within
-    ∙ ap (λ q. joined (part_of place q) (parts_of_pieces place (drop (n + 1) pieces))) (sym is)
-    ∙ ap (λ o. joined o (parts_of_pieces place (drop (n + 1) pieces))) e)
+    (at_drop_more (parts_of_pieces bounds) pieces n piece within
+    ∙ ap (λ q. joined (part_of bounds q) (parts_of_pieces bounds (drop (n + 1) pieces))) (sym is)
+    ∙ ap (λ o. joined o (parts_of_pieces bounds (drop (n + 1) pieces))) e)
 
 -- what a part and its tail come to, by what the tail is
 abbrev of_tail : Part → Option (List Part) → Bool → Bool → Option (List Part)
@@ -56,7 +56,7 @@ pub follows_end_of_file : (whole : Option (List Part)) (read : List Part) (part 
     → Follows whole read (joined (Some (part, tail)) more) → None ≡ whole
 follows_end_of_file whole read part tail more e h = sym (h ∙ ap (λ o. option_map (λ parts. read ++ parts) o) (joined_ended part tail more e))
 
-pub follows_end : (place : Place) (pieces : List (List ℕ)) (n : ℕ) (whole : Option (List Part)) (read : List Part) → n ≡ length pieces
-    → Follows whole read (parts_of_pieces place (drop n pieces)) → Some read ≡ whole
-follows_end place pieces n whole read all h =
-    sym (h ∙ ap (λ o. option_map (λ parts. read ++ parts) o) (at_drop_all (parts_of_pieces place) pieces n (omega (arith, all))) ∙ ap Some (append-nil read))
+pub follows_end : (bounds : FieldBounds) (pieces : List (List ℕ)) (n : ℕ) (whole : Option (List Part)) (read : List Part) → n ≡ length pieces
+    → Follows whole read (parts_of_pieces bounds (drop n pieces)) → Some read ≡ whole
+follows_end bounds pieces n whole read all h =
+    sym (h ∙ ap (λ o. option_map (λ parts. read ++ parts) o) (at_drop_all (parts_of_pieces bounds) pieces n (omega (arith, all))) ∙ ap Some (append-nil read))

@@ -4,7 +4,7 @@ use Rattle.std.proofs.lemmas.List.{at_drop_more, at_drop_all}
 use Rattle.std.proofs.lemmas.List.Splits.{length-slice_split}
 use Rattle.std.specs.List.{slice_split, onto_first}
 use Rattle.crontab.specs.declared.field.Part.{Part}
-use Rattle.crontab.specs.declared.field.Place.{Place}
+use Rattle.crontab.specs.declared.field.FieldBounds.{FieldBounds}
 use Rattle.crontab.specs.Bytes.{begins_with}
 use Rattle.crontab.specs.Field.{part_of}
 use Rattle.crontab.specs.List.{first_refused, refused_of_pieces}
@@ -30,8 +30,8 @@ reach_split (b ∷ bs) =
     omega (arith, reach_cond b more (b == 44) (omega (arith, length-slice_split (λ c. c == 44) bs)), reach_split bs)
 
 -- the place in the whole is that in the pieces that are left, so many bytes on
-pub record Goes (whole : Option (ℕ × ℕ)) (all : ℕ) (start : ℕ) (place : Place) (left : List (List ℕ)) : Type 0 where
-  pub is : whole ≡ option_map (λ p. (start + p.0, start + p.1)) (refused_of_pieces place left)
+pub record Goes (whole : Option (ℕ × ℕ)) (all : ℕ) (start : ℕ) (bounds : FieldBounds) (left : List (List ℕ)) : Type 0 where
+  pub is : whole ≡ option_map (λ p. (start + p.0, start + p.1)) (refused_of_pieces bounds left)
   pub reaches : start + reach left ≡ all + 1
 
 abbrev pub some_pair : ℕ → ℕ → Option (ℕ × ℕ)
@@ -44,10 +44,10 @@ from_here : (o : Option (ℕ × ℕ)) → o ≡ option_map (λ p. (0 + p.0, 0 + 
 from_here None = refl
 from_here (Some (a, b)) = same_pair a b (0 + a) (0 + b) (omega arith) (omega arith)
 
-pub goes_first : (place : Place) (field : List ℕ)
-    → Goes (refused_of_pieces place (slice_split (λ b. b == 44) field)) (length field) 0 place (slice_split (λ b. b == 44) field)
-goes_first place field = record {
-  is = from_here (refused_of_pieces place (slice_split (λ b. b == 44) field));
+pub goes_first : (bounds : FieldBounds) (field : List ℕ)
+    → Goes (refused_of_pieces bounds (slice_split (λ b. b == 44) field)) (length field) 0 bounds (slice_split (λ b. b == 44) field)
+goes_first bounds field = record {
+  is = from_here (refused_of_pieces bounds (slice_split (λ b. b == 44) field));
   reaches = omega (arith, reach_split field);
 }
 
@@ -55,14 +55,14 @@ goes_first place field = record {
 abbrev at_piece : ℕ → ℕ → Option (Part × List ℕ) → Option (ℕ × ℕ) → Option (ℕ × ℕ)
 at_piece start long found more = option_map (λ p. (start + p.0, start + p.1)) (first_refused long found more)
 
-module _ (place : Place) (pieces : List (List ℕ)) (n : ℕ) (piece : List ℕ) (whole : Option (ℕ × ℕ)) (all start : ℕ) (found : Option (Part × List ℕ))
-    (within : n < length pieces) (is : piece ≡ get_or pieces n piece) (read : part_of place piece ≡ found) (h : Goes whole all start place (drop n pieces)) where
-  goes_piece : whole ≡ at_piece start (length piece) found (refused_of_pieces place (drop (n + 1) pieces))
+module _ (bounds : FieldBounds) (pieces : List (List ℕ)) (n : ℕ) (piece : List ℕ) (whole : Option (ℕ × ℕ)) (all start : ℕ) (found : Option (Part × List ℕ))
+    (within : n < length pieces) (is : piece ≡ get_or pieces n piece) (read : part_of bounds piece ≡ found) (h : Goes whole all start bounds (drop n pieces)) where
+  goes_piece : whole ≡ at_piece start (length piece) found (refused_of_pieces bounds (drop (n + 1) pieces))
   goes_piece =
       h.is ∙ ap (λ o. option_map (λ p. (start + p.0, start + p.1)) o)
-      (at_drop_more (refused_of_pieces place) pieces n piece within
-      ∙ ap (λ q. first_refused (length q) (part_of place q) (refused_of_pieces place (drop (n + 1) pieces))) (sym is)
-      ∙ ap (λ o. first_refused (length piece) o (refused_of_pieces place (drop (n + 1) pieces))) read)
+      (at_drop_more (refused_of_pieces bounds) pieces n piece within
+      ∙ ap (λ q. first_refused (length q) (part_of bounds q) (refused_of_pieces bounds (drop (n + 1) pieces))) (sym is)
+      ∙ ap (λ o. first_refused (length piece) o (refused_of_pieces bounds (drop (n + 1) pieces))) read)
 
   reach_piece : reach (drop n pieces) ≡ length piece + 1 + reach (drop (n + 1) pieces)
   reach_piece =
@@ -92,42 +92,42 @@ shift_on start long None = refl
 shift_on start long (Some (a, b)) =
     same_pair (start + (long + 1 + a)) (start + (long + 1 + b)) (start + long + 1 + a) (start + long + 1 + b) (omega arith) (omega arith)
 
-module _ (place : Place) (pieces : List (List ℕ)) (n : ℕ) (piece : List ℕ) (whole : Option (ℕ × ℕ)) (all start : ℕ)
-    (within : n < length pieces) (is : piece ≡ get_or pieces n piece) (h : Goes whole all start place (drop n pieces)) where
+module _ (bounds : FieldBounds) (pieces : List (List ℕ)) (n : ℕ) (piece : List ℕ) (whole : Option (ℕ × ℕ)) (all start : ℕ)
+    (within : n < length pieces) (is : piece ≡ get_or pieces n piece) (h : Goes whole all start bounds (drop n pieces)) where
   abbrev more : Option (ℕ × ℕ)
-  more = refused_of_pieces place (drop (n + 1) pieces)
+  more = refused_of_pieces bounds (drop (n + 1) pieces)
 
   -- the piece ends in the field
   pub ends_within : start + length piece ≤ all
-  ends_within = ends_in place pieces n piece whole all start (part_of place piece) within is refl h
+  ends_within = ends_in bounds pieces n piece whole all start (part_of bounds piece) within is refl h
 
   -- the piece is no part
-  pub refused_whole : part_of place piece ≡ None → some_pair start (start + length piece) ≡ whole
-  refused_whole read = sym (goes_piece place pieces n piece whole all start None within is read h ∙ here start (length piece))
+  pub refused_whole : part_of bounds piece ≡ None → some_pair start (start + length piece) ≡ whole
+  refused_whole read = sym (goes_piece bounds pieces n piece whole all start None within is read h ∙ here start (length piece))
 
   -- the byte 255 follows its part
-  pub refused_ended : (part : Part) (tail : List ℕ) → part_of place piece ≡ Some (part, tail) → begins_with 255 tail ≡ true → some_pair start (start + length piece) ≡ whole
+  pub refused_ended : (part : Part) (tail : List ℕ) → part_of bounds piece ≡ Some (part, tail) → begins_with 255 tail ≡ true → some_pair start (start + length piece) ≡ whole
   refused_ended part tail read ends =
-      sym (goes_piece place pieces n piece whole all start (Some (part, tail)) within is read h
+      sym (goes_piece bounds pieces n piece whole all start (Some (part, tail)) within is read h
       ∙ tailed start (length piece) part tail more true (length tail == 0) ends refl ∙ here start (length piece))
 
   -- the field ends after its part
-  pub refused_none : (part : Part) (tail : List ℕ) → part_of place piece ≡ Some (part, tail) → begins_with 255 tail ≡ false → (length tail == 0) ≡ false → None ≡ whole
+  pub refused_none : (part : Part) (tail : List ℕ) → part_of bounds piece ≡ Some (part, tail) → begins_with 255 tail ≡ false → (length tail == 0) ≡ false → None ≡ whole
   refused_none part tail read goes_on some =
-      sym (goes_piece place pieces n piece whole all start (Some (part, tail)) within is read h ∙ tailed start (length piece) part tail more false false goes_on some)
+      sym (goes_piece bounds pieces n piece whole all start (Some (part, tail)) within is read h ∙ tailed start (length piece) part tail more false false goes_on some)
 
   -- a comma follows its part
-  pub goes_next : (part : Part) (tail : List ℕ) → part_of place piece ≡ Some (part, tail) → begins_with 255 tail ≡ false → (length tail == 0) ≡ true
-      → Goes whole all (start + length piece + 1) place (drop (n + 1) pieces)
+  pub goes_next : (part : Part) (tail : List ℕ) → part_of bounds piece ≡ Some (part, tail) → begins_with 255 tail ≡ false → (length tail == 0) ≡ true
+      → Goes whole all (start + length piece + 1) bounds (drop (n + 1) pieces)
   goes_next part tail read goes_on none = record {
     is =
-        goes_piece place pieces n piece whole all start (Some (part, tail)) within is read h
+        goes_piece bounds pieces n piece whole all start (Some (part, tail)) within is read h
         ∙ tailed start (length piece) part tail more false true goes_on none ∙ shift_on start (length piece) more;
-    reaches = omega (arith, h.reaches, reach_piece place pieces n piece whole all start (Some (part, tail)) within is read h);
+    reaches = omega (arith, h.reaches, reach_piece bounds pieces n piece whole all start (Some (part, tail)) within is read h);
   }
 
 -- no piece is left
-pub goes_end : (place : Place) (pieces : List (List ℕ)) (n : ℕ) (whole : Option (ℕ × ℕ)) (all start : ℕ) → n ≡ length pieces
-    → Goes whole all start place (drop n pieces) → None ≡ whole
-goes_end place pieces n whole all start end h =
-    sym (h.is ∙ ap (shifted start) (at_drop_all (refused_of_pieces place) pieces n (omega (arith, end))))
+pub goes_end : (bounds : FieldBounds) (pieces : List (List ℕ)) (n : ℕ) (whole : Option (ℕ × ℕ)) (all start : ℕ) → n ≡ length pieces
+    → Goes whole all start bounds (drop n pieces) → None ≡ whole
+goes_end bounds pieces n whole all start end h =
+    sym (h.is ∙ ap (shifted start) (at_drop_all (refused_of_pieces bounds) pieces n (omega (arith, end))))

@@ -6,7 +6,7 @@ use Rattle.crontab.specs.declared.line.Times.TheVariants as times
 use Rattle.crontab.specs.declared.line.Job.{Job}
 use Rattle.crontab.specs.declared.line.Entry.{Entry}
 use Rattle.crontab.specs.declared.line.Entry.TheVariants as entries
-use Rattle.crontab.specs.declared.line.Words.{Words}
+use Rattle.crontab.specs.declared.line.FieldWords.{FieldWords}
 use Rattle.crontab.specs.declared.line.Texts.{Texts}
 use Rattle.crontab.specs.Line.{Timing, FiveTexts, reboot, never, named, Five, Task, Line, blank, comment, setting, job, pattern, refused}
 
@@ -17,7 +17,7 @@ times_seen times.Never = never
 times_seen (times.Named text both) = named (string_bytes text) both
 
 -- the five words of a job
-abbrev pub words_seen : Words → Five
+abbrev pub words_seen : FieldWords → Five
 words_seen w = record {
   minutes = w.minutes.now;
   hours = w.hours.now;

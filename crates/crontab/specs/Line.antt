@@ -3,7 +3,7 @@ use Rattle.std.specs.Prelude.{ℕ, Bool, true, false, ◌||◌, ◌==◌, nat_lt
 use Rattle.std.specs.Str.{bytes_eq}
 use Rattle.crontab.specs.declared.bytes.Kind.TheVariants as kinds
 use Rattle.crontab.specs.declared.field.Names.TheVariants as names
-use Rattle.crontab.specs.declared.field.Place.{Place}
+use Rattle.crontab.specs.declared.field.FieldBounds.{FieldBounds}
 use Rattle.crontab.specs.declared.line.Dialect.{Dialect}
 use Rattle.crontab.specs.declared.line.Dialect.TheVariants as dialects
 use Rattle.crontab.specs.declared.line.Fault.{Fault}
@@ -37,20 +37,20 @@ nickname_of word =
     else option_map (λ text. named text false) (pattern_of_nickname word)
 
 -- the values of each field
-abbrev pub minute_place : Place
-minute_place = record { first = 0; last = 59; names = names.None }
+abbrev pub minute_bounds : FieldBounds
+minute_bounds = record { first = 0; last = 59; names = names.None }
 
-abbrev pub hour_place : Place
-hour_place = record { first = 0; last = 23; names = names.None }
+abbrev pub hour_bounds : FieldBounds
+hour_bounds = record { first = 0; last = 23; names = names.None }
 
-abbrev pub day_place : Place
-day_place = record { first = 1; last = 31; names = names.None }
+abbrev pub day_bounds : FieldBounds
+day_bounds = record { first = 1; last = 31; names = names.None }
 
-abbrev pub month_place : Place
-month_place = record { first = 1; last = 12; names = names.Months }
+abbrev pub month_bounds : FieldBounds
+month_bounds = record { first = 1; last = 12; names = names.Months }
 
-abbrev pub weekday_place : Place
-weekday_place = record { first = 0; last = 7; names = names.Weekdays }
+abbrev pub weekday_bounds : FieldBounds
+weekday_bounds = record { first = 0; last = 7; names = names.Weekdays }
 
 -- the five words, and what follows them
 pub record Five : Type 0 where
@@ -112,11 +112,11 @@ pub record FiveTexts : Type 0 where
 -- the texts of five words, or the first word that cron does not take
 abbrev pub texts_of : Five → Result FiveTexts Fault
 texts_of w =
-    with (field_text minute_place w.minutes) faults.Minutes (λ minutes.
-    with (field_text hour_place w.hours) faults.Hours (λ hours.
-    with (field_text day_place w.days) faults.Days (λ days.
-    with (field_text month_place w.months) faults.Months (λ months.
-    with (field_text weekday_place w.weekdays) faults.Weekdays (λ weekdays.
+    with (field_text minute_bounds w.minutes) faults.Minutes (λ minutes.
+    with (field_text hour_bounds w.hours) faults.Hours (λ hours.
+    with (field_text day_bounds w.days) faults.Days (λ days.
+    with (field_text month_bounds w.months) faults.Months (λ months.
+    with (field_text weekday_bounds w.weekdays) faults.Weekdays (λ weekdays.
     Ok (record { minutes = minutes; hours = hours; days = days; months = months; weekdays = weekdays }))))))
 
 -- the times of five words whose texts were read; no command may begin with the byte 255, which is the end of the file there

@@ -2,7 +2,7 @@
 use Rattle.std.specs.Prelude.{ℕ, ◌+◌, ◌%◌, Bool, false, not, ◌&&◌, ◌==◌, nat_lt, List, [], ◌∷◌, ◌++◌, length, fold, codes, Option, Some, None, option_map, if◌then◌else◌}
 use Rattle.std.specs.Fmt.{decimal}
 use Rattle.std.specs.List.{slice_split}
-use Rattle.crontab.specs.declared.field.Place.{Place}
+use Rattle.crontab.specs.declared.field.FieldBounds.{FieldBounds}
 use Rattle.crontab.specs.declared.field.Part.{Part}
 use Rattle.crontab.specs.Bytes.{begins_with}
 use Rattle.crontab.specs.Field.{part_of, smaller}
@@ -18,13 +18,13 @@ joined (Some read) more =
     else if length read.1 == 0 then option_map (λ parts. read.0 ∷ parts) more else Some (read.0 ∷ [])
 
 -- the parts of a field that is cut at its commas
-abbrev pub parts_of_pieces : Place → List (List ℕ) → Option (List Part)
-parts_of_pieces place [] = Some []
-parts_of_pieces place (piece ∷ pieces) = joined (part_of place piece) (parts_of_pieces place pieces)
+abbrev pub parts_of_pieces : FieldBounds → List (List ℕ) → Option (List Part)
+parts_of_pieces bounds [] = Some []
+parts_of_pieces bounds (piece ∷ pieces) = joined (part_of bounds piece) (parts_of_pieces bounds pieces)
 
 -- the parts of a field, where cron takes it
-abbrev pub parts_of : Place → List ℕ → Option (List Part)
-parts_of place field = parts_of_pieces place (slice_split (λ b. b == 44) field)
+abbrev pub parts_of : FieldBounds → List ℕ → Option (List Part)
+parts_of bounds field = parts_of_pieces bounds (slice_split (λ b. b == 44) field)
 
 -- a part at the begin of a list: it is refused where it is none, or the byte 255 follows it; else it is taken, and the refused part of
 -- those after it counts where a comma directly follows
@@ -35,13 +35,13 @@ first_refused long (Some read) more =
     else if length read.1 == 0 then option_map (λ place. (long + 1 + place.0, long + 1 + place.1)) more else None
 
 -- the same of a field that is cut at its commas: where its refused part begins, and where it ends
-abbrev pub refused_of_pieces : Place → List (List ℕ) → Option (ℕ × ℕ)
-refused_of_pieces place [] = None
-refused_of_pieces place (piece ∷ pieces) = first_refused (length piece) (part_of place piece) (refused_of_pieces place pieces)
+abbrev pub refused_of_pieces : FieldBounds → List (List ℕ) → Option (ℕ × ℕ)
+refused_of_pieces bounds [] = None
+refused_of_pieces bounds (piece ∷ pieces) = first_refused (length piece) (part_of bounds piece) (refused_of_pieces bounds pieces)
 
 -- the place in a field of the part for which cron refuses it, from 0; there is none where cron takes it
-abbrev pub refused_in : Place → List ℕ → Option (ℕ × ℕ)
-refused_in place field = refused_of_pieces place (slice_split (λ b. b == 44) field)
+abbrev pub refused_in : FieldBounds → List ℕ → Option (ℕ × ℕ)
+refused_in bounds field = refused_of_pieces bounds (slice_split (λ b. b == 44) field)
 
 -- one part, which is a star with a step below this number that doesn't divide it
 abbrev pub is_uneven : ℕ → List Part → Bool
@@ -86,5 +86,5 @@ text_of [] = []
 text_of (part ∷ parts) = if part.is_star && part.step == 1 then codes "*" else fold added (first_text part) parts
 
 -- the text of a field that cron takes
-abbrev pub field_text : Place → List ℕ → Option (List ℕ)
-field_text place field = option_map text_of (parts_of place field)
+abbrev pub field_text : FieldBounds → List ℕ → Option (List ℕ)
+field_text bounds field = option_map text_of (parts_of bounds field)

@@ -9,7 +9,7 @@ use Rattle.crontab.specs.declared.bytes.Kind.{Kind}
 use Rattle.crontab.specs.declared.bytes.Kind.TheVariants as kinds
 use Rattle.crontab.specs.declared.field.Names.TheVariants as names
 use Rattle.crontab.specs.declared.field.Part.{Part}
-use Rattle.crontab.specs.declared.field.Place.{Place}
+use Rattle.crontab.specs.declared.field.FieldBounds.{FieldBounds}
 use Rattle.crontab.specs.declared.line.Fault.{Fault}
 use Rattle.crontab.specs.declared.line.Fault.TheVariants as faults
 use Rattle.crontab.specs.declared.notes.Note.{Note}
@@ -19,7 +19,7 @@ use Rattle.crontab.specs.declared.notes.Sign.TheVariants as signs
 use Rattle.crontab.specs.Bytes.{is_of, is_digit, is_alphanumeric, front, text_after, begins_with, rest_of}
 use Rattle.crontab.specs.Field.{with_digit, name_of, part_of}
 use Rattle.crontab.specs.List.{parts_of, are_uneven}
-use Rattle.crontab.specs.Line.{Five, minute_place, hour_place, day_place, month_place, weekday_place, next, words_of, are_both, nickname_of}
+use Rattle.crontab.specs.Line.{Five, minute_bounds, hour_bounds, day_bounds, month_bounds, weekday_bounds, next, words_of, are_both, nickname_of}
 use Rattle.crontab.specs.Setting.{has}
 
 -- ---- names
@@ -67,32 +67,32 @@ abbrev pub is_last_weekday : List ℕ → Bool
 is_last_weekday word = reads (codes "l") word || (is_numbered (codes "l") word || is_named_last word)
 
 -- digits, or none; a name of the field; or such a modifier
-abbrev pub is_weekday_word : Place → List ℕ → Bool
-is_weekday_word place word = list_all is_digit word || (is_some (name_of place.names word) || is_last_weekday word)
+abbrev pub is_weekday_word : FieldBounds → List ℕ → Bool
+is_weekday_word bounds word = list_all is_digit word || (is_some (name_of bounds.names word) || is_last_weekday word)
 
-abbrev pub passes : Sign → Place → List ℕ → Bool
-passes signs.Followed place piece = is_followed (part_of place piece)
-passes signs.Large place word = is_large word
-passes signs.Empty place piece = length piece == 0
-passes signs.OtherName place word = is_named word && is_none (name_of place.names word)
-passes signs.NamedStep place piece = is_named (front kinds.Alphanumeric (rest_of (text_after (kinds.But 47) piece)))
-passes signs.DayModifier place word = reads (codes "l") word || (reads (codes "lw") word || is_numbered (codes "w") word)
-passes signs.NoWeekday place word = not (is_weekday_word place word)
-passes signs.WeekdayModifier place word = is_last_weekday word
+abbrev pub passes : Sign → FieldBounds → List ℕ → Bool
+passes signs.Followed bounds piece = is_followed (part_of bounds piece)
+passes signs.Large bounds word = is_large word
+passes signs.Empty bounds piece = length piece == 0
+passes signs.OtherName bounds word = is_named word && is_none (name_of bounds.names word)
+passes signs.NamedStep bounds piece = is_named (front kinds.Alphanumeric (rest_of (text_after (kinds.But 47) piece)))
+passes signs.DayModifier bounds word = reads (codes "l") word || (reads (codes "lw") word || is_numbered (codes "w") word)
+passes signs.NoWeekday bounds word = not (is_weekday_word bounds word)
+passes signs.WeekdayModifier bounds word = is_last_weekday word
 
 -- one of the runs of bytes of a kind passes
-abbrev pub any_run : Sign → Place → Kind → List ℕ → Bool
-any_run sign place kind text = list_any (passes sign place) (slice_split (λ b. not (is_of kind b)) text)
+abbrev pub any_run : Sign → FieldBounds → Kind → List ℕ → Bool
+any_run sign bounds kind text = list_any (passes sign bounds) (slice_split (λ b. not (is_of kind b)) text)
 
 -- ---- what cron takes of a field, and leaves out of it
 
 -- cron passes over bytes of the field after a part, which are no comma
-abbrev pub has_passed_over : Place → List ℕ → Bool
-has_passed_over place field = any_run signs.Followed place (kinds.But 44) field
+abbrev pub has_passed_over : FieldBounds → List ℕ → Bool
+has_passed_over bounds field = any_run signs.Followed bounds (kinds.But 44) field
 
 -- a word of the field is a number that 32 bits don't hold. Where bytes are passed over, only that is told
-abbrev pub has_large_number : Place → List ℕ → Bool
-has_large_number place field = not (has_passed_over place field) && any_run signs.Large place kinds.Alphanumeric field
+abbrev pub has_large_number : FieldBounds → List ℕ → Bool
+has_large_number bounds field = not (has_passed_over bounds field) && any_run signs.Large bounds kinds.Alphanumeric field
 
 -- ---- what a word may have been meant as
 
@@ -102,11 +102,11 @@ is_weekday_byte b = is_alphanumeric b || (b == 42 || (b == 44 || (b == 45 || (b 
 
 -- a word that may be a field of weekdays: such bytes alone, and of letters and digits only numbers, weekdays and modifiers
 abbrev pub looks_like_weekdays : List ℕ → Bool
-looks_like_weekdays word = list_all is_weekday_byte word && not (any_run signs.NoWeekday weekday_place kinds.Alphanumeric word)
+looks_like_weekdays word = list_all is_weekday_byte word && not (any_run signs.NoWeekday weekday_bounds kinds.Alphanumeric word)
 
 -- a word of the field is a name, and none of this field
-abbrev pub has_other_name : Place → List ℕ → Bool
-has_other_name place field = any_run signs.OtherName place kinds.Alphanumeric field
+abbrev pub has_other_name : FieldBounds → List ℕ → Bool
+has_other_name bounds field = any_run signs.OtherName bounds kinds.Alphanumeric field
 
 -- ---- what cron takes and reads otherwise
 
@@ -119,21 +119,21 @@ has_star_among None = false
 has_star_among (Some parts) = nat_lt 1 (length parts) && list_any is_whole_star parts
 
 -- a field that cron takes has a star that names all values beside other parts
-abbrev pub is_star_among : Place → List ℕ → Bool
-is_star_among place field = has_star_among (parts_of place field)
+abbrev pub is_star_among : FieldBounds → List ℕ → Bool
+is_star_among bounds field = has_star_among (parts_of bounds field)
 
 abbrev pub any_star_among : Five → Bool
 any_star_among w =
-    is_star_among minute_place w.minutes || (is_star_among hour_place w.hours || (is_star_among day_place w.days
-    || (is_star_among month_place w.months || is_star_among weekday_place w.weekdays)))
+    is_star_among minute_bounds w.minutes || (is_star_among hour_bounds w.hours || (is_star_among day_bounds w.days
+    || (is_star_among month_bounds w.months || is_star_among weekday_bounds w.weekdays)))
 
 -- a step in days, months or weekdays is shorter from the last value to the next first one
-abbrev pub has_uneven_step : ℕ → Place → List ℕ → Bool
-has_uneven_step turn place field = are_uneven turn (parts_of place field)
+abbrev pub has_uneven_step : ℕ → FieldBounds → List ℕ → Bool
+has_uneven_step turn bounds field = are_uneven turn (parts_of bounds field)
 
 abbrev pub any_uneven_step : Five → Bool
 any_uneven_step w =
-    has_uneven_step 31 day_place w.days || (has_uneven_step 12 month_place w.months || has_uneven_step 7 weekday_place w.weekdays)
+    has_uneven_step 31 day_bounds w.days || (has_uneven_step 12 month_bounds w.months || has_uneven_step 7 weekday_bounds w.weekdays)
 
 -- a day field begins with a star, and neither is a star alone: both must match
 abbrev pub is_star_day : Five → Bool
@@ -153,48 +153,48 @@ is_job_noted note text w = not (begins_with 64 text) && are_words_noted note w
 -- ---- what cron refuses and croner's parser takes
 
 -- the word of a field that is at fault
-abbrev pub field_at : Fault → Five → Option (Place × List ℕ)
-field_at faults.Minutes w = Some (minute_place, w.minutes)
-field_at faults.Hours w = Some (hour_place, w.hours)
-field_at faults.Days w = Some (day_place, w.days)
-field_at faults.Months w = Some (month_place, w.months)
-field_at faults.Weekdays w = Some (weekday_place, w.weekdays)
+abbrev pub field_at : Fault → Five → Option (FieldBounds × List ℕ)
+field_at faults.Minutes w = Some (minute_bounds, w.minutes)
+field_at faults.Hours w = Some (hour_bounds, w.hours)
+field_at faults.Days w = Some (day_bounds, w.days)
+field_at faults.Months w = Some (month_bounds, w.months)
+field_at faults.Weekdays w = Some (weekday_bounds, w.weekdays)
 field_at other w = None
 
 -- the field has a modifier of croner's: L, W or `?` in days, L, `?` or a `+` in front in weekdays
-abbrev pub has_modifier : Fault → Place → List ℕ → Bool
-has_modifier faults.Days place field = has 63 field || any_run signs.DayModifier place kinds.Alphanumeric field
-has_modifier faults.Weekdays place field = has 63 field || (begins_with 43 field || any_run signs.WeekdayModifier place kinds.Alphanumeric field)
-has_modifier other place field = false
+abbrev pub has_modifier : Fault → FieldBounds → List ℕ → Bool
+has_modifier faults.Days bounds field = has 63 field || any_run signs.DayModifier bounds kinds.Alphanumeric field
+has_modifier faults.Weekdays bounds field = has 63 field || (begins_with 43 field || any_run signs.WeekdayModifier bounds kinds.Alphanumeric field)
+has_modifier other bounds field = false
 
 -- a note of a field that is at fault
-abbrev pub is_fault_noted : Note → Fault → Place → List ℕ → Bool
-is_fault_noted notes.EmptyPart fault place field = nat_lt 0 (length field) && any_run signs.Empty place (kinds.But 44) field
-is_fault_noted notes.OtherName fault place field =
-    has_other_name place field || any_run signs.NamedStep place (kinds.But 44) field
-is_fault_noted notes.Modifier fault place field = has_modifier fault place field
-is_fault_noted other fault place field = false
+abbrev pub is_fault_noted : Note → Fault → FieldBounds → List ℕ → Bool
+is_fault_noted notes.EmptyPart fault bounds field = nat_lt 0 (length field) && any_run signs.Empty bounds (kinds.But 44) field
+is_fault_noted notes.OtherName fault bounds field =
+    has_other_name bounds field || any_run signs.NamedStep bounds (kinds.But 44) field
+is_fault_noted notes.Modifier fault bounds field = has_modifier fault bounds field
+is_fault_noted other fault bounds field = false
 
 -- cron takes the field
-abbrev pub takes : Place → List ℕ → Bool
-takes place field = is_some (parts_of place field)
+abbrev pub takes : FieldBounds → List ℕ → Bool
+takes bounds field = is_some (parts_of bounds field)
 
-abbrev pub is_refused_field_noted : Note → Fault → Option (Place × List ℕ) → Bool
+abbrev pub is_refused_field_noted : Note → Fault → Option (FieldBounds × List ℕ) → Bool
 is_refused_field_noted note fault None = false
 is_refused_field_noted note fault (Some at) = not (takes at.0 at.1) && is_fault_noted note fault at.0 at.1
 
 -- cron takes a day field, or it has a modifier
-abbrev pub takes_day : Fault → Place → List ℕ → Bool
-takes_day fault place field = takes place field || has_modifier fault place field
+abbrev pub takes_day : Fault → FieldBounds → List ℕ → Bool
+takes_day fault bounds field = takes bounds field || has_modifier fault bounds field
 
 abbrev pub takes_all : Five → Bool
 takes_all w =
-    takes minute_place w.minutes && (takes hour_place w.hours && (takes_day faults.Days day_place w.days
-    && (takes month_place w.months && takes_day faults.Weekdays weekday_place w.weekdays)))
+    takes minute_bounds w.minutes && (takes hour_bounds w.hours && (takes_day faults.Days day_bounds w.days
+    && (takes month_bounds w.months && takes_day faults.Weekdays weekday_bounds w.weekdays)))
 
 -- a field of seconds stands before five that cron takes, but for modifiers
 abbrev pub has_seconds : List ℕ → Bool
-has_seconds text = takes minute_place (front kinds.Word text) && takes_all (words_of (next text))
+has_seconds text = takes minute_bounds (front kinds.Word text) && takes_all (words_of (next text))
 
 -- small letters
 abbrev pub lowered : List ℕ → List ℕ

@@ -6,9 +6,9 @@ use Rattle.crontab.specs.declared.line.Entry.{Entry}
 use Rattle.crontab.specs.declared.line.Entry.TheVariants as entries
 use Rattle.crontab.specs.declared.line.Fault.{Fault}
 use Rattle.crontab.specs.declared.line.Fault.TheVariants as faults
-use Rattle.crontab.specs.declared.field.Place.{Place}
+use Rattle.crontab.specs.declared.field.FieldBounds.{FieldBounds}
 use Rattle.crontab.specs.Bytes.{front, text_after, begins_with, rest_of}
-use Rattle.crontab.specs.Line.{next, minute_place, hour_place, day_place, month_place, weekday_place, Line, refused}
+use Rattle.crontab.specs.Line.{next, minute_bounds, hour_bounds, day_bounds, month_bounds, weekday_bounds, Line, refused}
 use Rattle.crontab.specs.List.{refused_in}
 
 -- what follows the times: `@` and a word, or five words
@@ -20,24 +20,24 @@ abbrev pub command_of : Bool → List ℕ → List ℕ
 command_of system rest = if system then rest_of (text_after kinds.Word rest) else rest
 
 -- the place in a field of the part for which cron refuses it; of a field that cron takes, the whole of it
-abbrev pub place_in : Place → List ℕ → ℕ × ℕ
-place_in place field = unwrap_or (refused_in place field) (0, length field)
+abbrev pub place_in : FieldBounds → List ℕ → ℕ × ℕ
+place_in bounds field = unwrap_or (refused_in bounds field) (0, length field)
 
 -- the text from the refused part of its first word on, and the text after that part
-abbrev pub text_from_refused : Place → List ℕ → List ℕ
-text_from_refused place text = drop (place_in place (front kinds.Word text)).0 text
+abbrev pub text_from_refused : FieldBounds → List ℕ → List ℕ
+text_from_refused bounds text = drop (place_in bounds (front kinds.Word text)).0 text
 
-abbrev pub text_after_refused : Place → List ℕ → List ℕ
-text_after_refused place text = drop (place_in place (front kinds.Word text)).1 text
+abbrev pub text_after_refused : FieldBounds → List ℕ → List ℕ
+text_after_refused bounds text = drop (place_in bounds (front kinds.Word text)).1 text
 
 -- the text from the first byte of a fault on: the first byte 0, the refused part of a field, a word, or the command
 abbrev pub text_from_fault : Bool → List ℕ → Fault → List ℕ
 text_from_fault system text faults.Nul = text_after (kinds.But 0) text
-text_from_fault system text faults.Minutes = text_from_refused minute_place text
-text_from_fault system text faults.Hours = text_from_refused hour_place (next text)
-text_from_fault system text faults.Days = text_from_refused day_place (next (next text))
-text_from_fault system text faults.Months = text_from_refused month_place (next (next (next text)))
-text_from_fault system text faults.Weekdays = text_from_refused weekday_place (next (next (next (next text))))
+text_from_fault system text faults.Minutes = text_from_refused minute_bounds text
+text_from_fault system text faults.Hours = text_from_refused hour_bounds (next text)
+text_from_fault system text faults.Days = text_from_refused day_bounds (next (next text))
+text_from_fault system text faults.Months = text_from_refused month_bounds (next (next (next text)))
+text_from_fault system text faults.Weekdays = text_from_refused weekday_bounds (next (next (next (next text))))
 text_from_fault system text faults.Nickname = text
 text_from_fault system text faults.User = text_after_times text
 text_from_fault system text faults.Command = command_of system (text_after_times text)
@@ -46,11 +46,11 @@ text_from_fault system text faults.LongCommand = command_of system (text_after_t
 -- the text after its last byte: after one byte, that part, the word, or none
 abbrev pub text_after_fault : Bool → List ℕ → Fault → List ℕ
 text_after_fault system text faults.Nul = rest_of (text_after (kinds.But 0) text)
-text_after_fault system text faults.Minutes = text_after_refused minute_place text
-text_after_fault system text faults.Hours = text_after_refused hour_place (next text)
-text_after_fault system text faults.Days = text_after_refused day_place (next (next text))
-text_after_fault system text faults.Months = text_after_refused month_place (next (next (next text)))
-text_after_fault system text faults.Weekdays = text_after_refused weekday_place (next (next (next (next text))))
+text_after_fault system text faults.Minutes = text_after_refused minute_bounds text
+text_after_fault system text faults.Hours = text_after_refused hour_bounds (next text)
+text_after_fault system text faults.Days = text_after_refused day_bounds (next (next text))
+text_after_fault system text faults.Months = text_after_refused month_bounds (next (next (next text)))
+text_after_fault system text faults.Weekdays = text_after_refused weekday_bounds (next (next (next (next text))))
 text_after_fault system text faults.Nickname = text_after kinds.Word text
 text_after_fault system text faults.User = text_after kinds.Word (text_after_times text)
 text_after_fault system text faults.Command = []

@@ -4,7 +4,7 @@ ghost use Rattle.std.specs.Char.{to_ascii_lowercase};
 ghost use Rattle.std.specs.Str.{bytes_eq};
 ghost use Rattle.std.specs.List.{list_all};
 ghost use Rattle.crontab.specs.Bytes.{is_digit};
-ghost use Rattle.crontab.specs.Field.{most, with_digit, number_of, months, weekdays, place_of, name_of, value_of, value_at, is_within, is_step, part_in_place, part_with_step, part_from_value, part_of};
+ghost use Rattle.crontab.specs.Field.{most, with_digit, number_of, months, weekdays, place_of, name_of, value_of, value_at, is_within, is_step, part_in_bounds, part_with_step, part_from_value, part_of};
 
 use crate::bytes::{Kind, begins_with, cut, is_digit, rest_of};
 
@@ -32,7 +32,7 @@ pub enum Names {
 
 /// The values that a field may have, and its names.
 #[derive(Clone, Copy)]
-pub struct Place {
+pub struct FieldBounds {
     /// The least value.
     pub first: u64,
     /// The greatest.
@@ -178,10 +178,10 @@ fn value_at(names: Names, text: &[u8]) -> Option<(u64, &[u8])>
     }
 }
 
-fn is_within(place: Place, value: u64) -> bool
-    ensures { result ≡ is_within place value }
+fn is_within(bounds: FieldBounds, value: u64) -> bool
+    ensures { result ≡ is_within bounds value }
 {
-    place.first <= value && value <= place.last
+    bounds.first <= value && value <= bounds.last
 }
 
 fn is_step(first: u64, last: u64, step: u64) -> bool
@@ -192,12 +192,12 @@ fn is_step(first: u64, last: u64, step: u64) -> bool
         && (last < first || first.saturating_add(step) < POSITIVE_NUMBERS)
 }
 
-fn part_in_place(place: Place, part: Part, rest: &[u8]) -> Option<(Part, &[u8])>
+fn part_in_bounds(bounds: FieldBounds, part: Part, rest: &[u8]) -> Option<(Part, &[u8])>
     ensures { option_map (λ p. (p.0, p.1.now)) result
-        ≡ part_in_place place part.is_star part.first part.last part.step rest.now }
+        ≡ part_in_bounds bounds part.is_star part.first part.last part.step rest.now }
 {
-    if is_within(place, part.first)
-        && is_within(place, part.last)
+    if is_within(bounds, part.first)
+        && is_within(bounds, part.last)
         && is_step(part.first, part.last, part.step)
     {
         Some((part, rest))
@@ -208,17 +208,17 @@ fn part_in_place(place: Place, part: Part, rest: &[u8]) -> Option<(Part, &[u8])>
 
 // A star or a range, so far of step 1, with the step after it.
 fn part_with_step(
-    place: Place,
+    bounds: FieldBounds,
     is_star: bool,
     first: u64,
     last: u64,
     rest: &[u8],
 ) -> Option<(Part, &[u8])>
-    ensures { option_map (λ p. (p.0, p.1.now)) result ≡ part_with_step place is_star first last rest.now }
+    ensures { option_map (λ p. (p.0, p.1.now)) result ≡ part_with_step bounds is_star first last rest.now }
 {
     if !begins_with(rest, b'/') {
-        return part_in_place(
-            place,
+        return part_in_bounds(
+            bounds,
             Part {
                 is_star,
                 first,
@@ -229,8 +229,8 @@ fn part_with_step(
         );
     }
     match value_at(Names::None, rest_of(rest)) {
-        Some((step, after)) => part_in_place(
-            place,
+        Some((step, after)) => part_in_bounds(
+            bounds,
             Part {
                 is_star,
                 first,
@@ -244,20 +244,20 @@ fn part_with_step(
 }
 
 // What follows a value.
-fn part_from_value(place: Place, first: u64, rest: &[u8]) -> Option<(Part, &[u8])>
-    ensures { option_map (λ p. (p.0, p.1.now)) result ≡ part_from_value place first rest.now }
+fn part_from_value(bounds: FieldBounds, first: u64, rest: &[u8]) -> Option<(Part, &[u8])>
+    ensures { option_map (λ p. (p.0, p.1.now)) result ≡ part_from_value bounds first rest.now }
 {
     if begins_with(rest, b'-') {
-        return match value_at(place.names, rest_of(rest)) {
-            Some((last, after)) => part_with_step(place, false, first, last, after),
+        return match value_at(bounds.names, rest_of(rest)) {
+            Some((last, after)) => part_with_step(bounds, false, first, last, after),
             None => None,
         };
     }
     if begins_with(rest, b'/') {
         return None;
     }
-    part_in_place(
-        place,
+    part_in_bounds(
+        bounds,
         Part {
             is_star: false,
             first,
@@ -269,14 +269,14 @@ fn part_from_value(place: Place, first: u64, rest: &[u8]) -> Option<(Part, &[u8]
 }
 
 /// The part that a text begins with, and what follows it; `None` unless the part's bounds lie within the field's.
-pub fn part_of(place: Place, text: &[u8]) -> Option<(Part, &[u8])>
-    ensures { option_map (λ p. (p.0, p.1.now)) result ≡ part_of place text.now }
+pub fn part_of(bounds: FieldBounds, text: &[u8]) -> Option<(Part, &[u8])>
+    ensures { option_map (λ p. (p.0, p.1.now)) result ≡ part_of bounds text.now }
 {
     if begins_with(text, b'*') {
-        return part_with_step(place, true, place.first, place.last, rest_of(text));
+        return part_with_step(bounds, true, bounds.first, bounds.last, rest_of(text));
     }
-    match value_at(place.names, text) {
-        Some((value, after)) => part_from_value(place, value, after),
+    match value_at(bounds.names, text) {
+        Some((value, after)) => part_from_value(bounds, value, after),
         None => None,
     }
 }

@@ -9,7 +9,7 @@ ghost use Rattle.crontab.specs.Entries.{times_seen, words_seen, texts_read, read
 ghost use Rattle.crontab.specs.Place.{NamesPlace};
 
 use crate::bytes::{Kind, begins_with, cut, rest_of, text_before, trim_end};
-use crate::field::{Names, Place};
+use crate::field::{FieldBounds, Names};
 use crate::list::field_text;
 use crate::place::{Span, place_of};
 use crate::setting::{has, is_setting, sets_zone};
@@ -22,35 +22,35 @@ const COMMAND_LENGTH: usize = 998;
 const END_OF_FILE: u8 = 255;
 
 /// Minutes: 0 to 59.
-pub const MINUTES: Place = Place {
+pub const MINUTES: FieldBounds = FieldBounds {
     first: 0,
     last: 59,
     names: Names::None,
 };
 
 /// Hours: 0 to 23.
-pub const HOURS: Place = Place {
+pub const HOURS: FieldBounds = FieldBounds {
     first: 0,
     last: 23,
     names: Names::None,
 };
 
 /// Days of the month: 1 to 31.
-pub const DAYS: Place = Place {
+pub const DAYS: FieldBounds = FieldBounds {
     first: 1,
     last: 31,
     names: Names::None,
 };
 
 /// Months: 1 to 12, or their names.
-pub const MONTHS: Place = Place {
+pub const MONTHS: FieldBounds = FieldBounds {
     first: 1,
     last: 12,
     names: Names::Months,
 };
 
 /// Weekdays: 0 to 7, of which both 0 and 7 are Sunday, or their names.
-pub const WEEKDAYS: Place = Place {
+pub const WEEKDAYS: FieldBounds = FieldBounds {
     first: 0,
     last: 7,
     names: Names::Weekdays,
@@ -181,7 +181,7 @@ pub enum Entry<'l> {
 
 /// Five words, and what follows them. A missing word is empty.
 #[derive(Clone, Copy)]
-pub struct Words<'l> {
+pub struct FieldWords<'l> {
     /// The first.
     pub minutes: &'l [u8],
     /// The second.
@@ -207,7 +207,7 @@ pub fn word(text: &[u8]) -> (&[u8], &[u8])
 }
 
 /// The five words that a text begins with, and what follows them.
-pub fn words_of(text: &[u8]) -> Words<'_>
+pub fn words_of(text: &[u8]) -> FieldWords<'_>
     ensures { words_seen result ≡ words_of text.now }
 {
     let (minutes, rest) = word(text);
@@ -215,7 +215,7 @@ pub fn words_of(text: &[u8]) -> Words<'_>
     let (days, rest) = word(rest);
     let (months, rest) = word(rest);
     let (weekdays, rest) = word(rest);
-    Words {
+    FieldWords {
         minutes,
         hours,
         days,
@@ -289,7 +289,7 @@ fn text_of_nickname(word: &[u8]) -> Option<&'static str>
 }
 
 // Whether both day fields must match: one of them begins with a star.
-pub(crate) fn are_both(words: Words<'_>) -> bool
+pub(crate) fn are_both(words: FieldWords<'_>) -> bool
     ensures { result ≡ are_both (words_seen words.entry) }
 {
     begins_with(words.days, b'*') || begins_with(words.weekdays, b'*')
@@ -363,7 +363,7 @@ fn times_of_fields(alloc: Global, both: bool, texts: &Texts) -> Result<Times, Al
 }
 
 // The texts of five fields, or the first that cron does not take.
-fn texts_of(alloc: Global, words: Words<'_>) -> Result<Result<Texts, Fault>, AllocError>
+fn texts_of(alloc: Global, words: FieldWords<'_>) -> Result<Result<Texts, Fault>, AllocError>
     ensures { IfOk result (λ read. texts_read read ≡ texts_of (words_seen words.entry)) }
 {
     let Some(minutes) = field_text(alloc, MINUTES, words.minutes)? else {
@@ -391,7 +391,7 @@ fn texts_of(alloc: Global, words: Words<'_>) -> Result<Result<Texts, Fault>, All
 }
 
 // The times of five words, or the fault.
-fn times_of(alloc: Global, words: Words<'_>) -> Result<Result<Times, Fault>, AllocError>
+fn times_of(alloc: Global, words: FieldWords<'_>) -> Result<Result<Times, Fault>, AllocError>
     ensures { IfOk result (λ read. read_seen read ≡ times_of (words_seen words.entry)) }
 {
     match texts_of(alloc, words)? {

@@ -3,7 +3,7 @@ ghost use Rattle.std.specs.Prelude.{◌≡◌, ◌≤◌, length, fold, option_m
 ghost use Rattle.crontab.specs.List.{parts_of, refused_in, names_nothing, is_uneven, step_text, range_text, added, first_text, text_of, field_text};
 
 use crate::bytes::begins_with;
-use crate::field::{Part, Place, part_of};
+use crate::field::{FieldBounds, Part, part_of};
 use std::alloc::{AllocError, Global};
 
 /// The byte that cron takes for the end of the file, where it follows a part.
@@ -16,12 +16,16 @@ const MOST_STEP: u64 = 9_999;
 /// comma directly follows.
 ///
 /// The only error is lack of memory.
-pub fn parts_of(alloc: Global, place: Place, field: &[u8]) -> Result<Option<Vec<Part>>, AllocError>
-    ensures { IfOk result (λ found. option_map (λ parts. parts.items) found ≡ parts_of place field.now) }
+pub fn parts_of(
+    alloc: Global,
+    bounds: FieldBounds,
+    field: &[u8],
+) -> Result<Option<Vec<Part>>, AllocError>
+    ensures { IfOk result (λ found. option_map (λ parts. parts.items) found ≡ parts_of bounds field.now) }
 {
     let mut parts = Vec::new(alloc);
     for piece in field.split(|byte| *byte == b',') {
-        let Some((part, tail)) = part_of(place, piece) else {
+        let Some((part, tail)) = part_of(bounds, piece) else {
             return Ok(None);
         };
         if begins_with(tail, END_OF_FILE) {
@@ -37,15 +41,15 @@ pub fn parts_of(alloc: Global, place: Place, field: &[u8]) -> Result<Option<Vec<
 
 /// The place of the part for which cron refuses a field: the byte of the field at which it begins, from 0, and the byte after
 /// its last one. `None` where cron accepts the field.
-pub(crate) fn refused_in(place: Place, field: &[u8]) -> Option<(usize, usize)>
-    ensures place { result ≡ refused_in place field.now }
+pub(crate) fn refused_in(bounds: FieldBounds, field: &[u8]) -> Option<(usize, usize)>
+    ensures place { result ≡ refused_in bounds field.now }
     ensures order { IfSome result (λ found. found.0 ≤ found.1) }
     ensures within { IfSome result (λ found. found.1 ≤ length field.now) }
 {
     let mut start = 0;
     for piece in field.split(|byte| *byte == b',') {
         let end = start + piece.len();
-        let Some((_, tail)) = part_of(place, piece) else {
+        let Some((_, tail)) = part_of(bounds, piece) else {
             return Some((start, end));
         };
         if begins_with(tail, END_OF_FILE) {
@@ -147,10 +151,14 @@ fn text_of(alloc: Global, parts: &[Part]) -> Result<String, AllocError>
 /// is empty where the field names no value.
 ///
 /// The only error is lack of memory.
-pub fn field_text(alloc: Global, place: Place, field: &[u8]) -> Result<Option<String>, AllocError>
-    ensures { IfOk result (λ text. option_map string_bytes text ≡ field_text place field.now) }
+pub fn field_text(
+    alloc: Global,
+    bounds: FieldBounds,
+    field: &[u8],
+) -> Result<Option<String>, AllocError>
+    ensures { IfOk result (λ text. option_map string_bytes text ≡ field_text bounds field.now) }
 {
-    let Some(parts) = parts_of(alloc, place, field)? else {
+    let Some(parts) = parts_of(alloc, bounds, field)? else {
         return Ok(None);
     };
     let text = text_of(alloc, parts.as_slice())?;

@@ -13,8 +13,10 @@ ghost use Rattle.crontab.specs.List.{parts_of};
 ghost use Rattle.crontab.specs.Notes.{is_followed, is_large, is_named, reads, is_numbered, is_named_last, is_last_weekday, is_weekday_word, passes, any_run, is_weekday_byte, looks_like_weekdays, has_other_name, has_passed_over, has_large_number, is_whole_star, is_star_among, any_star_among, has_uneven_step, any_uneven_step, is_star_day, are_words_noted, is_job_noted, field_at, has_modifier, is_fault_noted, takes, is_refused_field_noted, takes_day, takes_all, has_seconds, lowered, is_of_fields, is_of_nickname, is_refusal_noted, is_text_noted, note_name, notes_of};
 
 use crate::bytes::{Kind, begins_with, cut, is_digit, is_of, rest_of};
-use crate::field::{Names, Part, Place, all_digits, digits, is_name, name_of, part_of};
-use crate::line::{DAYS, Fault, HOURS, MINUTES, MONTHS, WEEKDAYS, Words, are_both, word, words_of};
+use crate::field::{FieldBounds, Names, Part, all_digits, digits, is_name, name_of, part_of};
+use crate::line::{
+    DAYS, Fault, FieldWords, HOURS, MINUTES, MONTHS, WEEKDAYS, are_both, word, words_of,
+};
 use crate::list::{is_uneven, parts_of};
 use crate::setting::has;
 use std::alloc::{AllocError, Global};
@@ -106,10 +108,10 @@ enum Sign {
 
 // ---- signs
 
-fn is_followed(place: Place, piece: &[u8]) -> bool
-    ensures { result ≡ is_followed (part_of place piece.now) }
+fn is_followed(bounds: FieldBounds, piece: &[u8]) -> bool
+    ensures { result ≡ is_followed (part_of bounds piece.now) }
 {
-    match part_of(place, piece) {
+    match part_of(bounds, piece) {
         Some((_, after)) => !after.is_empty(),
         None => false,
     }
@@ -170,50 +172,50 @@ fn is_last_weekday(word: &[u8]) -> bool
 }
 
 // Whether a word is digits, or a name of the field, or such a modifier.
-fn is_weekday_word(place: Place, word: &[u8]) -> bool
-    ensures { result ≡ is_weekday_word place word.now }
+fn is_weekday_word(bounds: FieldBounds, word: &[u8]) -> bool
+    ensures { result ≡ is_weekday_word bounds word.now }
 {
-    all_digits(word) || name_of(place.names, word).is_some() || is_last_weekday(word)
+    all_digits(word) || name_of(bounds.names, word).is_some() || is_last_weekday(word)
 }
 
-fn passes(sign: Sign, place: Place, run: &[u8]) -> bool
-    ensures { result ≡ passes sign place run.now }
+fn passes(sign: Sign, bounds: FieldBounds, run: &[u8]) -> bool
+    ensures { result ≡ passes sign bounds run.now }
 {
     match sign {
-        Sign::Followed => is_followed(place, run),
+        Sign::Followed => is_followed(bounds, run),
         Sign::Large => is_large(run),
         Sign::Empty => run.is_empty(),
-        Sign::OtherName => is_named(run) && name_of(place.names, run).is_none(),
+        Sign::OtherName => is_named(run) && name_of(bounds.names, run).is_none(),
         Sign::NamedStep => is_named_step(run),
         Sign::DayModifier => is_name(run, "l") || is_name(run, "lw") || is_numbered(run, "w"),
         Sign::WeekdayModifier => is_last_weekday(run),
-        Sign::NoWeekday => !is_weekday_word(place, run),
+        Sign::NoWeekday => !is_weekday_word(bounds, run),
     }
 }
 
 // Whether one of the runs of bytes of a kind passes.
-fn any_run(sign: Sign, place: Place, kind: Kind, text: &[u8]) -> bool
-    ensures { result ≡ any_run sign place kind text.now }
+fn any_run(sign: Sign, bounds: FieldBounds, kind: Kind, text: &[u8]) -> bool
+    ensures { result ≡ any_run sign bounds kind text.now }
 {
     text.split(|byte| !is_of(kind, *byte))
-        .any(|run| passes(sign, place, run))
+        .any(|run| passes(sign, bounds, run))
 }
 
 // ---- what cron takes of a field, and leaves out of it
 
 /// Whether cron passes over bytes of a field after a part, which are no comma.
-pub fn has_passed_over(place: Place, field: &[u8]) -> bool
-    ensures { result ≡ has_passed_over place field.now }
+pub fn has_passed_over(bounds: FieldBounds, field: &[u8]) -> bool
+    ensures { result ≡ has_passed_over bounds field.now }
 {
-    any_run(Sign::Followed, place, Kind::But(b','), field)
+    any_run(Sign::Followed, bounds, Kind::But(b','), field)
 }
 
 /// Whether a word of a field is a number of 2^32 or more, which cron reduces modulo 2^32, and no bytes of the field are
 /// passed over.
-pub fn has_large_number(place: Place, field: &[u8]) -> bool
-    ensures { result ≡ has_large_number place field.now }
+pub fn has_large_number(bounds: FieldBounds, field: &[u8]) -> bool
+    ensures { result ≡ has_large_number bounds field.now }
 {
-    !has_passed_over(place, field) && any_run(Sign::Large, place, Kind::Alphanumeric, field)
+    !has_passed_over(bounds, field) && any_run(Sign::Large, bounds, Kind::Alphanumeric, field)
 }
 
 // ---- what a word may have been meant as
@@ -246,10 +248,10 @@ pub fn looks_like_weekdays(word: &[u8]) -> bool
 }
 
 /// Whether a word of a field is the name of a month or of a weekday that this field doesn't have.
-pub fn has_other_name(place: Place, field: &[u8]) -> bool
-    ensures { result ≡ has_other_name place field.now }
+pub fn has_other_name(bounds: FieldBounds, field: &[u8]) -> bool
+    ensures { result ≡ has_other_name bounds field.now }
 {
-    any_run(Sign::OtherName, place, Kind::Alphanumeric, field)
+    any_run(Sign::OtherName, bounds, Kind::Alphanumeric, field)
 }
 
 // ---- what cron takes and reads otherwise
@@ -266,16 +268,16 @@ fn any_whole_star(parts: &[Part]) -> bool
     parts.iter().any(|part| is_whole_star(part))
 }
 
-fn is_star_among(alloc: Global, place: Place, field: &[u8]) -> Result<bool, AllocError>
-    ensures { IfOk result (λ b. b ≡ is_star_among place field.now) }
+fn is_star_among(alloc: Global, bounds: FieldBounds, field: &[u8]) -> Result<bool, AllocError>
+    ensures { IfOk result (λ b. b ≡ is_star_among bounds field.now) }
 {
-    match parts_of(alloc, place, field)? {
+    match parts_of(alloc, bounds, field)? {
         Some(parts) => Ok(1 < parts.len() && any_whole_star(parts.as_slice())),
         None => Ok(false),
     }
 }
 
-fn any_star_among(alloc: Global, words: Words<'_>) -> Result<bool, AllocError>
+fn any_star_among(alloc: Global, words: FieldWords<'_>) -> Result<bool, AllocError>
     ensures { IfOk result (λ b. b ≡ any_star_among (words_seen words.entry)) }
 {
     let minutes = is_star_among(alloc, MINUTES, words.minutes)?;
@@ -286,16 +288,21 @@ fn any_star_among(alloc: Global, words: Words<'_>) -> Result<bool, AllocError>
     Ok(minutes || hours || days || months || weekdays)
 }
 
-fn has_uneven_step(alloc: Global, turn: u64, place: Place, field: &[u8]) -> Result<bool, AllocError>
-    ensures { IfOk result (λ b. b ≡ has_uneven_step turn place field.now) }
+fn has_uneven_step(
+    alloc: Global,
+    turn: u64,
+    bounds: FieldBounds,
+    field: &[u8],
+) -> Result<bool, AllocError>
+    ensures { IfOk result (λ b. b ≡ has_uneven_step turn bounds field.now) }
 {
-    match parts_of(alloc, place, field)? {
+    match parts_of(alloc, bounds, field)? {
         Some(parts) => Ok(is_uneven(turn, parts.as_slice())),
         None => Ok(false),
     }
 }
 
-fn any_uneven_step(alloc: Global, words: Words<'_>) -> Result<bool, AllocError>
+fn any_uneven_step(alloc: Global, words: FieldWords<'_>) -> Result<bool, AllocError>
     ensures { IfOk result (λ b. b ≡ any_uneven_step (words_seen words.entry)) }
 {
     let days = has_uneven_step(alloc, DAYS_OF_MONTH, DAYS, words.days)?;
@@ -304,13 +311,13 @@ fn any_uneven_step(alloc: Global, words: Words<'_>) -> Result<bool, AllocError>
     Ok(days || months || weekdays)
 }
 
-fn is_star_day(words: Words<'_>) -> bool
+fn is_star_day(words: FieldWords<'_>) -> bool
     ensures { result ≡ is_star_day (words_seen words.entry) }
 {
     are_both(words) && !(words.days == "*".as_bytes() || words.weekdays == "*".as_bytes())
 }
 
-fn are_words_noted(alloc: Global, note: Note, words: Words<'_>) -> Result<bool, AllocError>
+fn are_words_noted(alloc: Global, note: Note, words: FieldWords<'_>) -> Result<bool, AllocError>
     ensures { IfOk result (λ b. b ≡ are_words_noted note (words_seen words.entry)) }
 {
     match note {
@@ -325,7 +332,7 @@ fn is_job_noted(
     alloc: Global,
     note: Note,
     text: &[u8],
-    words: Words<'_>,
+    words: FieldWords<'_>,
 ) -> Result<bool, AllocError>
     ensures { IfOk result (λ b. b ≡ is_job_noted note text.now (words_seen words.entry)) }
 {
@@ -338,7 +345,7 @@ fn is_job_noted(
 // ---- what cron refuses and croner's parser takes
 
 // The word of a field that is at fault, and the values that it may have.
-fn field_at<'l>(fault: Fault, words: Words<'l>) -> Option<(Place, &'l [u8])>
+fn field_at<'l>(fault: Fault, words: FieldWords<'l>) -> Option<(FieldBounds, &'l [u8])>
     ensures { option_map (λ f. (f.0, f.1.now)) result ≡ field_at fault (words_seen words.entry) }
 {
     match fault {
@@ -351,27 +358,28 @@ fn field_at<'l>(fault: Fault, words: Words<'l>) -> Option<(Place, &'l [u8])>
     }
 }
 
-fn has_modifier(fault: Fault, place: Place, field: &[u8]) -> bool
-    ensures { result ≡ has_modifier fault place field.now }
+fn has_modifier(fault: Fault, bounds: FieldBounds, field: &[u8]) -> bool
+    ensures { result ≡ has_modifier fault bounds field.now }
 {
     match fault {
         Fault::Days => has(field, b'?')
-            || any_run(Sign::DayModifier, place, Kind::Alphanumeric, field),
+            || any_run(Sign::DayModifier, bounds, Kind::Alphanumeric, field),
         Fault::Weekdays => has(field, b'?')
             || begins_with(field, b'+')
-            || any_run(Sign::WeekdayModifier, place, Kind::Alphanumeric, field),
+            || any_run(Sign::WeekdayModifier, bounds, Kind::Alphanumeric, field),
         _ => false,
     }
 }
 
-fn is_fault_noted(note: Note, fault: Fault, place: Place, field: &[u8]) -> bool
-    ensures { result ≡ is_fault_noted note fault place field.now }
+fn is_fault_noted(note: Note, fault: Fault, bounds: FieldBounds, field: &[u8]) -> bool
+    ensures { result ≡ is_fault_noted note fault bounds field.now }
 {
     match note {
-        Note::EmptyPart => !field.is_empty() && any_run(Sign::Empty, place, Kind::But(b','), field),
-        Note::OtherName => has_other_name(place, field)
-            || any_run(Sign::NamedStep, place, Kind::But(b','), field),
-        Note::Modifier => has_modifier(fault, place, field),
+        Note::EmptyPart => !field.is_empty()
+            && any_run(Sign::Empty, bounds, Kind::But(b','), field),
+        Note::OtherName => has_other_name(bounds, field)
+            || any_run(Sign::NamedStep, bounds, Kind::But(b','), field),
+        Note::Modifier => has_modifier(fault, bounds, field),
         _ => false,
     }
 }
@@ -379,10 +387,10 @@ fn is_fault_noted(note: Note, fault: Fault, place: Place, field: &[u8]) -> bool
 /// Whether cron takes a field.
 ///
 /// The only error is lack of memory.
-pub fn takes(alloc: Global, place: Place, field: &[u8]) -> Result<bool, AllocError>
-    ensures { IfOk result (λ b. b ≡ takes place field.now) }
+pub fn takes(alloc: Global, bounds: FieldBounds, field: &[u8]) -> Result<bool, AllocError>
+    ensures { IfOk result (λ b. b ≡ takes bounds field.now) }
 {
-    match parts_of(alloc, place, field)? {
+    match parts_of(alloc, bounds, field)? {
         Some(_) => Ok(true),
         None => Ok(false),
     }
@@ -392,28 +400,33 @@ fn is_refused_field_noted(
     alloc: Global,
     note: Note,
     fault: Fault,
-    words: Words<'_>,
+    words: FieldWords<'_>,
 ) -> Result<bool, AllocError>
     ensures { IfOk result (λ b. b ≡ is_refused_field_noted note fault (field_at fault (words_seen words.entry))) }
 {
     match field_at(fault, words) {
-        Some((place, field)) => {
-            let is_taken = takes(alloc, place, field)?;
-            Ok(!is_taken && is_fault_noted(note, fault, place, field))
+        Some((bounds, field)) => {
+            let is_taken = takes(alloc, bounds, field)?;
+            Ok(!is_taken && is_fault_noted(note, fault, bounds, field))
         }
         None => Ok(false),
     }
 }
 
 // Whether cron takes a day field, or it has a modifier.
-fn takes_day(alloc: Global, fault: Fault, place: Place, field: &[u8]) -> Result<bool, AllocError>
-    ensures { IfOk result (λ b. b ≡ takes_day fault place field.now) }
+fn takes_day(
+    alloc: Global,
+    fault: Fault,
+    bounds: FieldBounds,
+    field: &[u8],
+) -> Result<bool, AllocError>
+    ensures { IfOk result (λ b. b ≡ takes_day fault bounds field.now) }
 {
-    let is_taken = takes(alloc, place, field)?;
-    Ok(is_taken || has_modifier(fault, place, field))
+    let is_taken = takes(alloc, bounds, field)?;
+    Ok(is_taken || has_modifier(fault, bounds, field))
 }
 
-fn takes_all(alloc: Global, words: Words<'_>) -> Result<bool, AllocError>
+fn takes_all(alloc: Global, words: FieldWords<'_>) -> Result<bool, AllocError>
     ensures { IfOk result (λ b. b ≡ takes_all (words_seen words.entry)) }
 {
     let minutes = takes(alloc, MINUTES, words.minutes)?;
@@ -466,7 +479,7 @@ fn is_refusal_noted(
     note: Note,
     fault: Fault,
     text: &[u8],
-    words: Words<'_>,
+    words: FieldWords<'_>,
 ) -> Result<bool, AllocError>
     ensures { IfOk result (λ b. b ≡ is_refusal_noted note fault text.now (words_seen words.entry)) }
 {
@@ -489,7 +502,7 @@ fn is_noted(
     note: Note,
     fault: Option<Fault>,
     text: &[u8],
-    words: Words<'_>,
+    words: FieldWords<'_>,
 ) -> Result<bool, AllocError>
     ensures { IfOk result (λ b. b ≡ is_text_noted note fault text.now (words_seen words.entry)) }
 {
@@ -516,7 +529,7 @@ fn those_noted(
     alloc: Global,
     fault: Option<Fault>,
     text: &[u8],
-    words: Words<'_>,
+    words: FieldWords<'_>,
     notes: &[Note],
 ) -> Result<Vec<Note>, AllocError>
     ensures { IfOk result (λ found. found.items ≡ filter (λ note. is_text_noted note fault text.now (words_seen words.entry)) notes.now) }

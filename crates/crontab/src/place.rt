@@ -6,7 +6,7 @@ ghost use Rattle.crontab.specs.Line.{next};
 ghost use Rattle.crontab.specs.Place.{text_after_times, command_of, place_in, text_from_refused, text_after_refused, IsBetween, IsPlaceOf};
 
 use crate::bytes::{Kind, begins_with, cut, rest_of};
-use crate::field::Place;
+use crate::field::FieldBounds;
 use crate::line::{DAYS, Fault, HOURS, MINUTES, MONTHS, WEEKDAYS, word};
 use crate::list::refused_in;
 
@@ -42,25 +42,25 @@ fn word_at(line: &[u8], text: &[u8]) -> Span
 }
 
 // The part for which cron refuses the field that a text begins with; the whole of a field that cron takes.
-fn part_at(line: &[u8], text: &[u8], place: Place) -> Span
-    ensures place { IsBetween line.now (text_from_refused place text.now) (text_after_refused place text.now) result.start result.end }
+fn part_at(line: &[u8], text: &[u8], bounds: FieldBounds) -> Span
+    ensures place { IsBetween line.now (text_from_refused bounds text.now) (text_after_refused bounds text.now) result.start result.end }
     ensures order { result.start ≤ result.end }
     ensures within { result.end ≤ length line.now }
 {
     let (field, _) = cut(text, Kind::Word);
-    let (start, end) = place_in(place, field);
+    let (start, end) = place_in(bounds, field);
     let (_, from) = text.split_at(start);
     let (_, after) = text.split_at(end);
     span_between(line, from, after)
 }
 
 // The place in a field of the part for which cron refuses it, or of the whole.
-fn place_in(place: Place, field: &[u8]) -> (usize, usize)
-    ensures place { result ≡ place_in place field.now }
+fn place_in(bounds: FieldBounds, field: &[u8]) -> (usize, usize)
+    ensures place { result ≡ place_in bounds field.now }
     ensures order { result.0 ≤ result.1 }
     ensures within { result.1 ≤ length field.now }
 {
-    match refused_in(place, field) {
+    match refused_in(bounds, field) {
         Some(found) => found,
         None => (0, field.len()),
     }

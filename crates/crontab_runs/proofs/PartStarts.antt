@@ -13,7 +13,7 @@ use Rattle.croner.specs.search.Limit.{IsWithin}
 use Rattle.croner.specs.search.Runs.{NearestWhere}
 use Rattle.croner.proofs.zone.Ahead.{reaches-same}
 use Rattle.crontab_runs.specs.declared.job.Start.{Start}
-use Rattle.crontab_runs.specs.declared.part.Part.{Part}
+use Rattle.crontab_runs.specs.declared.stretch_search.StretchSearch.{StretchSearch}
 use Rattle.crontab_runs.specs.declared.stretch.Stretch.{Stretch}
 use Rattle.crontab_runs.specs.Starts.{minute_of, NamesMinute, StartsTimes, Starts}
 use Rattle.crontab_runs.specs.Private.Due.{AreStarts}
@@ -41,7 +41,7 @@ least_starred starred begin o before e = rw e refl
 pub least_starless : (starred : Bool) (begin o before : ℤ) → starred ≡ false → least_minute starred begin o before ≡ int_max (minute_of (begin +ℤ o) +ℤ pos 1) (minute_of before +ℤ pos 1)
 least_starless starred begin o before e = rw e refl
 
-module _ (p : Part) where
+module _ (p : StretchSearch) where
   abbrev t : Stretch
   t = p.stretch
 
@@ -96,7 +96,7 @@ from_forward direction w l e = ap (λ (d : Direction). minute_from d w l) e
 pub from_backward : (direction : Direction) (w l : ℤ) → direction ≡ Backward → minute_from direction w l ≡ minute_of w
 from_backward direction w l e = ap (λ (d : Direction). minute_from d w l) e
 
-module _ (p : Part) (k : ℤ) (near : IsNearestFrom p k) where
+module _ (p : StretchSearch) (k : ℤ) (near : IsNearestFrom p k) where
   found_bounds : (first_searched ≤ℤ (k *ℤ pos 60 +ℤ pos 59)) × ((k *ℤ pos 60) ≤ℤ last_searched)
   found_bounds = named_bounds (job_of p.job.now.cron) k near.counts.1
 
@@ -123,18 +123,18 @@ module _ (p : Part) (k : ℤ) (near : IsNearestFrom p k) where
       (found.0, record { some = lit< tt; times = found.1 })
 
 -- where no minute is named
-pub none_after_begin : (p : Part) → NoneNamed p.direction (job_of p.job.now.cron) (minute_from p.direction (p.from +ℤ p.stretch.offset) (least_in p)) → NoneOf p (AfterBegin p)
+pub none_after_begin : (p : StretchSearch) → NoneNamed p.direction (job_of p.job.now.cron) (minute_from p.direction (p.from +ℤ p.stretch.offset) (least_in p)) → NoneOf p (AfterBegin p)
 none_after_begin p none =
     none_inside (zone_in p) p.stretch.begin p.stretch.end p.stretch.offset p.stretch.before p.stretch.fits (job_of p.job.now.cron) p.job.now.is_starred p.direction p.from none
 
 -- ---- the first second of the stretch
 
 -- where something is started there, and the search reaches it
-pub found_at_begin : (p : Part) (count : ℕ) → Reaches p.direction p.from p.stretch.begin → AreStarts (job_in p) (zone_in p) p.stretch.begin count → (count ≡ 0 → ⊥)
+pub found_at_begin : (p : StretchSearch) (count : ℕ) → Reaches p.direction p.from p.stretch.begin → AreStarts (job_in p) (zone_in p) p.stretch.begin count → (count ≡ 0 → ⊥)
     → IsFoundAtBegin p (record { second = p.stretch.begin; count = count })
 found_at_begin p count on starts some = let more : 0 < count = omega (arith, some) in record { at = refl; on = on; some = more; times = starts.times more }
 
-pub none_at_begin : (p : Part) (count : ℕ) → AreStarts (job_in p) (zone_in p) p.stretch.begin count → count ≡ 0 → NoneAtBegin p
+pub none_at_begin : (p : StretchSearch) (count : ℕ) → AreStarts (job_in p) (zone_in p) p.stretch.begin count → count ≡ 0 → NoneAtBegin p
 none_at_begin p count starts zero = λ on. starts.none zero
 
 pub backward_reaches : (direction : Direction) (from begin : ℤ) → direction ≡ Backward → begin ≤ℤ from → Reaches direction from begin
@@ -151,7 +151,7 @@ forward_reaches direction from begin e = subst (λ (d : Direction). (from ≤ℤ
 
 -- ---- both together
 
-module _ (p : Part) where
+module _ (p : StretchSearch) where
   in_or_at : (i : ℤ) → Within p i → AfterBegin p i ⊎ (i ≡ p.stretch.begin)
   in_or_at i (low, high, on) = by_lt_z p.stretch.begin i (λ lt. inl (lt, high, on)) (λ le. inr (omega (arith, ints)))
 

@@ -7,7 +7,7 @@ use Rattle.croner_base.specs.declared.time.Direction.TheVariants.{Forward, Backw
 use Rattle.croner.specs.search.Limit.{IsWithin, InSpan}
 use Rattle.croner.proofs.zone.Ahead.{reaches-same}
 use Rattle.crontab_runs.specs.declared.job.Start.{Start}
-use Rattle.crontab_runs.specs.declared.part.Part.{Part}
+use Rattle.crontab_runs.specs.declared.stretch_search.StretchSearch.{StretchSearch}
 use Rattle.crontab_runs.specs.declared.stretch.Stretch.{Stretch}
 use Rattle.crontab_runs.specs.Searches.{IsStartOf}
 use Rattle.crontab_runs.specs.Starts.{Starts}
@@ -55,7 +55,7 @@ far_backward direction s e = ap (λ (d : Direction). far_wall d s) e
 
 -- ---- what the search in the stretch finds
 
-module _ (p : Part) (from : ℤ) (same : SameFrom p.direction p.stretch from p.from) where
+module _ (p : StretchSearch) (from : ℤ) (same : SameFrom p.direction p.stretch from p.from) where
   in_within : (i : ℤ) → InStretch p.direction p.stretch from i → Within p i
   in_within i (low, high, on) = (low, high, (same i low high).1 on)
 

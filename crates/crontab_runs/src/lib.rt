@@ -17,10 +17,10 @@ mod listing;
 mod made_up;
 mod minutes;
 mod onward;
-mod part;
 mod recurring;
 mod search;
 mod stretch;
+mod stretch_search;
 
 pub use due::due_after;
 pub use job::{CrontabJob, Start};

@@ -10,8 +10,8 @@ ghost use Rattle.crontab_runs.specs.Private.Known.{IsKnown};
 
 use crate::job::{CrontabJob, Start};
 use crate::minutes::{NearestMinute, is_within};
-use crate::part::Part;
 use crate::stretch::{Stretch, changes_until};
+use crate::stretch_search::StretchSearch;
 use croner::Direction;
 use croner::time::table::TableTime;
 
@@ -63,7 +63,7 @@ impl CrontabJob {
         requires same { known.now.direction ≡ direction }
         ensures { StepsTo direction (cron_job_of self.now) (job_of self.now.cron) stretch.entry from result }
     {
-        let part = Part {
+        let part = StretchSearch {
             job: self,
             stretch,
             from: first_in(&stretch, from, direction),

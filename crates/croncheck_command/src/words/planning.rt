@@ -229,12 +229,13 @@ fn json<'w>(alloc: Global) -> Result<Arg<'w>, AllocError> {
         .conflicts_with("html")
 }
 
-// An option that stands with none of the answers that are texts.
+// An option that stands with none of the answers that are texts, nor with a second zone: a file has the clock of --zone alone.
 fn option_alone<'w>(arg: Arg<'w>) -> Result<Arg<'w>, AllocError> {
     arg.conflicts_with("runs")?
         .conflicts_with("week")?
         .conflicts_with("month")?
         .conflicts_with("quiet")?
         .conflicts_with("busy")?
-        .conflicts_with("together")
+        .conflicts_with("together")?
+        .conflicts_with("show-zone")
 }

@@ -9,7 +9,7 @@ use croncheck_findings::findings::Finding;
 use croncheck_output::escaped::shown_text;
 use croncheck_output::severity::Severity;
 use croncheck_reading::tally::one_more;
-use croncheck_report::place::Place;
+use croncheck_report::location::Location;
 use std::alloc::{AllocError, Global};
 
 /// The annotation of a finding at a place: a line with its line feed.
@@ -18,7 +18,7 @@ use std::alloc::{AllocError, Global};
 pub fn annotation(
     alloc: Global,
     style: Style,
-    place: Place<'_>,
+    place: Location<'_>,
     finding: &Finding,
 ) -> Result<Vec<u8>, AllocError>
     ensures { IfOk result (λ line. line.items ≡ line_of style place.entry.file.now place.entry.line finding.now) }
@@ -29,7 +29,7 @@ pub fn annotation(
     }
 }
 
-fn gcc_line(alloc: Global, place: Place<'_>, finding: &Finding) -> Result<Vec<u8>, AllocError>
+fn gcc_line(alloc: Global, place: Location<'_>, finding: &Finding) -> Result<Vec<u8>, AllocError>
     ensures { IfOk result (λ line. line.items ≡ gcc_line place.entry.file.now place.entry.line finding.now) }
 {
     let text = gcc_text(alloc, place, finding)?;
@@ -38,7 +38,7 @@ fn gcc_line(alloc: Global, place: Place<'_>, finding: &Finding) -> Result<Vec<u8
     Ok(line.into_bytes())
 }
 
-fn gcc_text(alloc: Global, place: Place<'_>, finding: &Finding) -> Result<String, AllocError>
+fn gcc_text(alloc: Global, place: Location<'_>, finding: &Finding) -> Result<String, AllocError>
     ensures { IfOk result (λ text. string_bytes text ≡ gcc_text place.entry.file.now place.entry.line finding.now) }
 {
     let (file, line) = (place.file, place.line);
@@ -55,7 +55,7 @@ fn column(at: usize) -> u64
     one_more(at as u64)
 }
 
-fn github_line(alloc: Global, place: Place<'_>, finding: &Finding) -> Result<Vec<u8>, AllocError>
+fn github_line(alloc: Global, place: Location<'_>, finding: &Finding) -> Result<Vec<u8>, AllocError>
     ensures { IfOk result (λ line. line.items ≡ github_line place.entry.file.now place.entry.line finding.now) }
 {
     let mut line = github_head(alloc, finding.severity)?.into_bytes();

@@ -2,96 +2,159 @@
 ghost use Rattle.std.specs.Prelude.{◌≡◌, List, IfErr, IfOk, OnOk, string_bytes};
 ghost use Rattle.jiff.specs.ZoneView.{plain_zone};
 ghost use Rattle.croncheck_output.specs.Output.{written_of, WritesApart};
-ghost use Rattle.croncheck_planner.specs.PlanAnswers.{WritesAnswers, WritesOtherAnswers, WritesOnZone, WritesAnswersOn, AreAnswersOn, AreOwnAnswers, IsOtherView, IsClockIn, IsNoClockIn, other_head, unfollowed_text, IsViewOf, job_planned, job_told, jobs_planned, jobs_told};
+ghost use Rattle.croncheck_planner.specs.PlanAnswers.{WritesAnswers, WritesLeftOut, WritesOwnAnswers, WritesOtherAnswers, WritesOnZone, WritesAnswersOn, WritesOnClock, AreAnswersOn, AreOwnAnswers, IsLeftOut, IsOtherView, IsClockIn, IsNoClockIn, clock_head, unfollowed_text, IsViewOf, job_planned, job_told, jobs_planned, jobs_told};
 
 use crate::plan::Found;
 use crate::plan::list::head_text;
-use crate::planner::Planned;
+use crate::planner::{ClockNames, Planned};
 use croncheck_output::output::Output;
 use croncheck_reading::progress::Terms;
 use croner::errors::CronError;
 use croner::time::table::ClockTable;
 use cronplan::{Plan, Span};
-use cronplan_forms::{Job, Questions, View, answers_text};
+use cronplan_forms::{Job, Questions, View, answers_text, left_out_text};
 use jiff::tz::TimeZone;
 use std::alloc::{AllocError, Global};
 use std::io;
 use std::io::{ErrorKind, Write};
 
-/// Writes what a plan of jobs answers, of which this was found: whose its starts are, what it leaves out, and the answers.
+/// Writes what a plan of jobs answers, of which this was found: whose its starts are, what it leaves out, and under the name of each zone that
+/// is shown the answers on its clock.
 pub(crate) fn write_answers<W: Write>(
     terms: &Terms<'_, '_>,
+    names: &ClockNames,
     front: &str,
     jobs: &[Planned],
     found: &Found,
     questions: Questions,
     output: &mut Output<W>,
 ) -> io::Result<()>
-    ensures { OnOk result (WritesAnswers terms.now.settings.now terms.now.shared.now front.now jobs.now found.now questions (written_of W.contents output.old) (written_of W.contents output.new)) }
+    ensures { OnOk result (WritesAnswers terms.now.settings.now terms.now.shared.now names.now front.now jobs.now found.now questions (written_of W.contents output.old) (written_of W.contents output.new)) }
 {
-    let text = own_answers(terms, jobs, found, questions)?;
     let starts = found.plan.starts.as_slice();
     output.write_apart(head_text(front, starts.is_empty()))?;
-    output.write_apart(text.as_str())?;
-    write_other_answers(terms, jobs, &found.plan, questions, output)
+    write_left_out(terms, jobs, found, output)?;
+    write_own_answers(terms, names.zone.as_str(), jobs, found, questions, output)?;
+    write_other_answers(terms, names.other.as_str(), jobs, found, questions, output)
 }
 
-// The answers on the clock of the zone that is shown.
+// Writes what a plan leaves out, if it leaves something out.
+fn write_left_out<W: Write>(
+    terms: &Terms<'_, '_>,
+    jobs: &[Planned],
+    found: &Found,
+    output: &mut Output<W>,
+) -> io::Result<()>
+    ensures { OnOk result (WritesLeftOut terms.now.settings.now jobs.now found.now (written_of W.contents output.old) (written_of W.contents output.new)) }
+{
+    let text = text_of_left_out(terms, jobs, found)?;
+    output.write_apart(text.as_str())
+}
+
+fn text_of_left_out(
+    terms: &Terms<'_, '_>,
+    jobs: &[Planned],
+    found: &Found,
+) -> Result<String, AllocError>
+    ensures { IfOk result (λ text. IsLeftOut terms.now.settings.now jobs.now found.now (string_bytes text)) }
+{
+    let told = jobs_of(terms.alloc, jobs)?;
+    let view = view_of(terms, "", found, told.as_slice());
+    left_out_text(terms.alloc, view)
+}
+
+// Writes the answers on the clock of the zone that is shown.
+fn write_own_answers<W: Write>(
+    terms: &Terms<'_, '_>,
+    name: &str,
+    jobs: &[Planned],
+    found: &Found,
+    questions: Questions,
+    output: &mut Output<W>,
+) -> io::Result<()>
+    ensures { OnOk result (WritesOwnAnswers terms.now.settings.now name.now jobs.now found.now questions (written_of W.contents output.old) (written_of W.contents output.new)) }
+{
+    let text = own_answers(terms, name, jobs, found, questions)?;
+    write_on_clock(terms.alloc, name, text.as_str(), output)
+}
+
 fn own_answers(
     terms: &Terms<'_, '_>,
+    name: &str,
     jobs: &[Planned],
     found: &Found,
     questions: Questions,
 ) -> Result<String, AllocError>
-    ensures { IfOk result (λ text. AreOwnAnswers terms.now.settings.now jobs.now found.now questions (string_bytes text)) }
+    ensures { IfOk result (λ text. AreOwnAnswers terms.now.settings.now name.now jobs.now found.now questions (string_bytes text)) }
 {
     let told = jobs_of(terms.alloc, jobs)?;
-    let zone = terms.shared.zone.iana_name().unwrap_or("");
-    let view = view_of(terms, zone, found, told.as_slice());
+    let view = view_of(terms, name, found, told.as_slice());
     answers_text(terms.alloc, view, questions)
+}
+
+// Writes answers under the name of the zone on whose clock they are.
+fn write_on_clock<W: Write>(
+    alloc: Global,
+    name: &str,
+    text: &str,
+    output: &mut Output<W>,
+) -> io::Result<()>
+    ensures { OnOk result (WritesOnClock name.now text.now (written_of W.contents output.old) (written_of W.contents output.new)) }
+{
+    let head = clock_head(alloc, name)?;
+    output.write_apart(head.as_str())?;
+    output.write_apart(text)
+}
+
+#[tactic(auto, unfolding(crate::specs::PlanAnswers::clock_head))]
+fn clock_head(alloc: Global, name: &str) -> Result<String, AllocError>
+    ensures { IfOk result (λ text. string_bytes text ≡ clock_head name.now) }
+{
+    format!(in alloc; "on the clock of {name}:\n")
 }
 
 // Writes the answers once more on the clock of the other zone, if one is to be shown.
 fn write_other_answers<W: Write>(
     terms: &Terms<'_, '_>,
+    name: &str,
     jobs: &[Planned],
-    plan: &Plan,
+    found: &Found,
     questions: Questions,
     output: &mut Output<W>,
 ) -> io::Result<()>
-    ensures { OnOk result (WritesOtherAnswers terms.now.shared.now jobs.now plan.now questions (written_of W.contents output.old) (written_of W.contents output.new)) }
+    ensures { OnOk result (WritesOtherAnswers terms.now.shared.now name.now jobs.now found.now questions (written_of W.contents output.old) (written_of W.contents output.new)) }
 {
     match &terms.shared.other_zone {
-        Some(zone) => write_answers_in(terms, zone, jobs, plan, questions, output),
+        Some(zone) => write_answers_in(terms.alloc, zone, name, jobs, found, questions, output),
         None => Ok(()),
     }
 }
 
 fn write_answers_in<W: Write>(
-    terms: &Terms<'_, '_>,
+    alloc: Global,
     zone: &TimeZone<'_>,
+    name: &str,
     jobs: &[Planned],
-    plan: &Plan,
+    found: &Found,
     questions: Questions,
     output: &mut Output<W>,
 ) -> io::Result<()>
-    ensures { OnOk result (WritesOnZone (plain_zone zone.now) terms.now.shared.now.other_name.now jobs.now plan.now questions (written_of W.contents output.old) (written_of W.contents output.new)) }
+    ensures { OnOk result (WritesOnZone (plain_zone zone.now) name.now jobs.now found.now questions (written_of W.contents output.old) (written_of W.contents output.new)) }
 {
-    let name = terms.shared.other_name;
-    match clock_in(terms.alloc, zone, plan.span) {
-        Ok(table) => write_answers_on(terms.alloc, &table, name, jobs, plan, questions, output),
-        Err(CronError::InvalidTime) => write_unfollowed(terms.alloc, name, output),
+    match clock_in(alloc, zone, found.plan.span) {
+        Ok(table) => write_answers_on(alloc, &table, name, jobs, found, questions, output),
+        Err(CronError::InvalidTime) => write_unfollowed(alloc, name, output),
         Err(_) => Err(io::Error::from(ErrorKind::OutOfMemory)),
     }
 }
 
-// The clock of a zone in a span, if it is calm there.
-#[tactic(auto, using(crate::proofs::OtherClocks::signed))]
+// The clock of a zone in a span, from the second before it, if it is calm there.
+#[tactic(auto, using(crate::proofs::OtherClocks::before_span))]
 fn clock_in(alloc: Global, zone: &TimeZone<'_>, span: Span) -> Result<ClockTable, CronError>
     ensures table { IfOk result (IsClockIn (plain_zone zone.now) span) }
     ensures err { IfErr result (IsNoClockIn (plain_zone zone.now) span) }
 {
-    ClockTable::of_zone(alloc, zone, span.first, span.end)
+    ClockTable::of_zone(alloc, zone, span.first - 1, span.end)
 }
 
 fn write_answers_on<W: Write>(
@@ -99,52 +162,53 @@ fn write_answers_on<W: Write>(
     table: &ClockTable,
     name: &str,
     jobs: &[Planned],
-    plan: &Plan,
+    found: &Found,
     questions: Questions,
     output: &mut Output<W>,
 ) -> io::Result<()>
-    ensures { OnOk result (WritesAnswersOn table.now name.now jobs.now plan.now questions (written_of W.contents output.old) (written_of W.contents output.new)) }
+    ensures { OnOk result (WritesAnswersOn table.now name.now jobs.now found.now questions (written_of W.contents output.old) (written_of W.contents output.new)) }
 {
-    let text = answers_on(alloc, table, jobs, plan, questions)?;
-    let head = other_head(alloc, name)?;
-    output.write_apart(head.as_str())?;
-    output.write_apart(text.as_str())
+    let text = answers_on(alloc, table, name, jobs, found, questions)?;
+    write_on_clock(alloc, name, text.as_str(), output)
 }
 
-// The answers on the clock of a table. What starts too often isn't named again.
+// The answers on the clock of a table. What is left out isn't told again.
 fn answers_on(
     alloc: Global,
     table: &ClockTable,
+    name: &str,
     jobs: &[Planned],
-    plan: &Plan,
+    found: &Found,
     questions: Questions,
 ) -> Result<String, AllocError>
-    ensures { IfOk result (λ text. AreAnswersOn table.now jobs.now plan.now questions (string_bytes text)) }
+    ensures { IfOk result (λ text. AreAnswersOn table.now name.now jobs.now found.now questions (string_bytes text)) }
 {
     let told = jobs_of(alloc, jobs)?;
-    let shown = plan.on_clock(alloc, table)?;
-    let view = other_view(&shown, table, told.as_slice());
+    let shown = found.plan.on_clock(alloc, table)?;
+    let view = other_view(&shown, found, table, name, told.as_slice());
     answers_text(alloc, view, questions)
 }
 
-fn other_view<'v>(plan: &'v Plan, table: &'v ClockTable, jobs: &'v [Job<'v>]) -> View<'v>
-    ensures view { IsOtherView table.now jobs.now plan.now result }
+// What was found, with this plan in place of its own, which is on the clock of a table.
+fn other_view<'v>(
+    plan: &'v Plan,
+    found: &'v Found,
+    table: &'v ClockTable,
+    zone: &'v str,
+    jobs: &'v [Job<'v>],
+) -> View<'v>
+    ensures view { IsOtherView table.now zone.now jobs.now plan.now found.now result }
 {
+    let frequent = found.frequent.as_slice();
+    let is_cut = found.is_cut();
     View {
         plan,
         table,
-        zone: "",
+        zone,
         jobs,
-        frequent: &[],
-        is_cut: false,
+        frequent,
+        is_cut,
     }
-}
-
-#[tactic(auto, unfolding(crate::specs::PlanAnswers::other_head))]
-fn other_head(alloc: Global, name: &str) -> Result<String, AllocError>
-    ensures { IfOk result (λ text. string_bytes text ≡ other_head name.now) }
-{
-    format!(in alloc; "on the clock of {name}:\n")
 }
 
 // Writes that the other zone's clock isn't followed.

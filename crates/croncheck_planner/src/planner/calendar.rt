@@ -29,7 +29,7 @@ impl Planner {
     {
         let found = self.found_starts(terms)?;
         let told = jobs_of(terms.alloc, self.jobs.as_slice())?;
-        let view = view_of(terms, terms.shared.zone_name, &found, told.as_slice());
+        let view = view_of(terms, self.names.zone.as_str(), &found, told.as_slice());
         let text = plan_calendar(terms.alloc, view, naming)?;
         let starts = found.plan.starts.as_slice();
         let is_cut = starts.len() > MOST_EVENTS;

@@ -9,15 +9,15 @@ use croner::errors::CronError;
 use cronplan_json::plan_json;
 
 impl Planner {
-    /// The plan as JSON, in a zone of this name: a line with the object that `cronplan_json::plan_json` makes.
+    /// The plan as JSON, by this planner's name of the zone: a line with the object that `cronplan_json::plan_json` makes.
     ///
     /// The only error is `OutOfMemory`, as that of `answered_plan`.
-    pub fn json<'p>(&'p self, terms: &'p Terms<'p, 'p>, zone: &'p str) -> Result<String, CronError>
-        ensures { IfOk result (λ text. IsJson terms.now.settings.now self.now zone.now (string_bytes text)) }
+    pub fn json<'p>(&'p self, terms: &'p Terms<'p, 'p>) -> Result<String, CronError>
+        ensures { IfOk result (λ text. IsJson terms.now.settings.now self.now (string_bytes text)) }
     {
         let found = self.found_starts(terms)?;
         let told = jobs_of(terms.alloc, self.jobs.as_slice())?;
-        let view = view_of(terms, zone, &found, told.as_slice());
+        let view = view_of(terms, self.names.zone.as_str(), &found, told.as_slice());
         let mut text = plan_json(terms.alloc, view)?;
         text.push('\n')?;
         Ok(text)

@@ -7,7 +7,7 @@ ghost use Rattle.croncheck_planner.specs.PlanFiles.{IsPage};
 ghost use Rattle.croncheck_planner.specs.Planner.{job_planned, jobs_seen};
 ghost use Rattle.croncheck_shown.specs.Shown.{place_text};
 
-use super::{PlanAsked, Planner, is_refused_by_user};
+use super::{ClockNames, PlanAsked, Planner, is_refused_by_user};
 use crate::plan::answers::{jobs_of, view_of};
 use crate::plan::title::heading_of;
 use croncheck_findings::findings::{Finding, findings_of};
@@ -16,7 +16,7 @@ use croncheck_output::severity::Severity;
 use croncheck_reading::form::Form;
 use croncheck_reading::progress::{Line, Progress, Terms};
 use croncheck_reading::tally::one_more;
-use croncheck_report::place::Place;
+use croncheck_report::location::Location;
 use croncheck_report::report::Report;
 use croncheck_report::settings::Settings;
 use croncheck_report::told::Told;
@@ -40,37 +40,37 @@ pub struct PagePlanner {
 }
 
 impl PagePlanner {
-    /// It knows no job yet.
-    pub fn new(alloc: Global, asked: PlanAsked) -> PagePlanner
+    /// It knows no job yet, but what the zones are called.
+    pub fn new(alloc: Global, asked: PlanAsked, names: ClockNames) -> PagePlanner
         ensures jobs { (result.planner.schedules.items ≡ []) × (result.planner.jobs.items ≡ []) }
         ensures found { result.found.items ≡ [] }
         ensures asked { result.planner.asked ≡ asked }
+        ensures names { result.planner.names ≡ names }
     {
         PagePlanner {
-            planner: Planner::new(alloc, asked),
+            planner: Planner::new(alloc, asked, names),
             found: Vec::new(alloc),
         }
     }
 
-    /// The page of the plan in a zone of this name, without the jobs that start too often, but for their names and counts: as `cronplan_page::page_of` has it, with the
-    /// warnings of each job. These texts are told of what cron ignores.
+    /// The page of the plan, by this planner's name of the zone, without the jobs that start too often, but for their names and counts: as
+    /// `cronplan_page::page_of` has it, with the warnings of each job. These texts are told of what cron ignores.
     ///
     /// The only error is `OutOfMemory`, as that of `answered_plan`.
     pub fn page<'p>(
         &'p self,
         terms: &'p Terms<'p, 'p>,
-        zone: &'p str,
         title: &'p str,
         ignored: &'p [PageLine<'p>],
     ) -> Result<String, CronError>
-        ensures { IfOk result (λ text. IsPage terms.now.settings.now self.now zone.now title.now ignored.now (string_bytes text)) }
+        ensures { IfOk result (λ text. IsPage terms.now.settings.now self.now title.now ignored.now (string_bytes text)) }
     {
         let planner = &self.planner;
         let found = planner.found_starts(terms)?;
         let told = jobs_of(terms.alloc, planner.jobs.as_slice())?;
         let lines = lines_of(terms.alloc, self.found.as_slice())?;
         let warned = warnings_of(terms.alloc, lines.as_slice())?;
-        let view = view_of(terms, zone, &found, told.as_slice());
+        let view = view_of(terms, planner.names.zone.as_str(), &found, told.as_slice());
         let warnings = warned.as_slice();
         let about = About {
             title,
@@ -85,7 +85,7 @@ impl PagePlanner {
     fn take_job(
         &mut self,
         terms: &Terms<'_, '_>,
-        place: Place<'_>,
+        place: Location<'_>,
         entry: &Entry<'_>,
         outcome: Outcome,
     ) -> io::Result<bool>
@@ -93,6 +93,7 @@ impl PagePlanner {
             (job_planned terms.now.settings.now (entry_seen entry.now) outcome) (jobs_seen self.old.planner.schedules self.old.planner.jobs) (jobs_seen self.new.planner.schedules self.new.planner.jobs)) }
         ensures above { self.new.planner.above ≡ self.old.planner.above }
         ensures asked { self.new.planner.asked ≡ self.old.planner.asked }
+        ensures names { self.new.planner.names ≡ self.old.planner.names }
         ensures found { self.new.found ≡ self.old.found }
     {
         if is_refused_by_user(terms.settings, entry) {
@@ -114,7 +115,7 @@ impl PagePlanner {
     fn tell<W: Write>(
         &mut self,
         terms: &Terms<'_, '_>,
-        place: Place<'_>,
+        place: Location<'_>,
         is_planned: bool,
         report: &Report<'_, '_>,
         found: Vec<Finding>,
@@ -159,7 +160,7 @@ impl Form for PagePlanner {
         self.planner.begin_file(progress.lines);
         let heading = heading_of(terms.alloc, &entry, text)?;
         let outcome = outcome_of(terms.alloc, terms.settings.parser, &entry)?;
-        let next = Place {
+        let next = Location {
             file: progress.file.name(),
             line: one_more(progress.lines),
         };
@@ -208,7 +209,7 @@ fn brief_of<'t>(settings: &Settings<'t>) -> Settings<'t>
 // What is told of a line without a job in the plan: a line of text for each thing that is wrong, and for a job that starts with the machine.
 fn ignored_text(
     alloc: Global,
-    place: Place<'_>,
+    place: Location<'_>,
     report: &Report<'_, '_>,
     found: &[Finding],
 ) -> Result<String, AllocError>
@@ -225,7 +226,7 @@ fn ignored_text(
 }
 
 #[tactic(auto, unfolding(crate::specs::PagePlans::reboot_line))]
-fn push_reboot(text: &mut String, place: Place<'_>) -> Result<(), AllocError>
+fn push_reboot(text: &mut String, place: Location<'_>) -> Result<(), AllocError>
     ensures { OnOk result (string_bytes text.new ≡ string_bytes text.old ++ reboot_line place.entry.file.now place.entry.line) }
 {
     push_place(text, place)?;
@@ -233,7 +234,7 @@ fn push_reboot(text: &mut String, place: Place<'_>) -> Result<(), AllocError>
 }
 
 // Puts after a text a thing that is wrong.
-fn push_ignored(text: &mut String, place: Place<'_>, finding: &Finding) -> Result<(), AllocError>
+fn push_ignored(text: &mut String, place: Location<'_>, finding: &Finding) -> Result<(), AllocError>
     ensures { OnOk result (string_bytes text.new ≡ string_bytes text.old ++ ignored_line place.entry.file.now place.entry.line finding.now) }
 {
     if !is_grave(finding.severity) {
@@ -244,7 +245,7 @@ fn push_ignored(text: &mut String, place: Place<'_>, finding: &Finding) -> Resul
     text.push_str("\n")
 }
 
-fn push_place(text: &mut String, place: Place<'_>) -> Result<(), AllocError>
+fn push_place(text: &mut String, place: Location<'_>) -> Result<(), AllocError>
     ensures { OnOk result (string_bytes text.new ≡ string_bytes text.old ++ place_text place.entry.file.now place.entry.line) }
 {
     let (file, line) = (place.file, place.line);

@@ -6,7 +6,7 @@ use super::below::text_below;
 use super::{View, push_head, push_setting, push_view, text_of_place};
 use croncheck_findings::findings::{Finding, findings_of};
 use croncheck_output::look::Look;
-use croncheck_report::place::Place;
+use croncheck_report::location::Location;
 use croncheck_report::report::Report;
 use std::alloc::{AllocError, Global};
 use unicode_width::UnicodeWidthStr;
@@ -19,7 +19,7 @@ use unicode_width::UnicodeWidthStr;
 pub fn finding_of(
     alloc: Global,
     look: Look,
-    place: Place<'_>,
+    place: Location<'_>,
     line: &[u8],
     report: &Report<'_, '_>,
 ) -> Result<String, AllocError>
@@ -34,7 +34,7 @@ pub fn finding_of(
 fn text_of_found(
     alloc: Global,
     look: Look,
-    place: Place<'_>,
+    place: Location<'_>,
     line: &[u8],
     report: &Report<'_, '_>,
     found: &[Finding],

@@ -3,13 +3,13 @@
 use super::often::push_often;
 use super::previous::push_previous;
 use super::{push_clock_in, window_end};
-use crate::ahead::Ahead;
 use crate::off::Off;
 use croncheck_changes::changes::told::push_minute;
 use croncheck_report::report::JobReport;
 use croncheck_report::shared::Shared;
 use croncheck_report::told::Told;
 use croncheck_runs::runs::{End, Listing, MOST_RUNS, Run, Runs};
+use cronplan_forms::Ahead;
 use jiff::Timestamp;
 use std::alloc::{AllocError, Global};
 
@@ -84,7 +84,7 @@ pub fn push_other_clock(
     let (civil, ahead) = (
         zone.to_datetime(instant),
         Ahead {
-            seconds: zone.to_offset(instant).seconds(),
+            seconds: i64::from(zone.to_offset(instant).seconds()),
         },
     );
     let (date, time) = (civil.date(), civil.time());

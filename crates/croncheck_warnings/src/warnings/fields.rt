@@ -5,13 +5,13 @@ ghost use Rattle.croner.specs.parser.Grammar.{seven};
 ghost use Rattle.croner.specs.parser.Words.{AreWords};
 ghost use Rattle.crontab.specs.Line.{words_of};
 ghost use Rattle.crontab.specs.List.{names_nothing};
-ghost use Rattle.croncheck_warnings.specs.Warnings.{texts_of_five, fields_of_schedule, AreFieldsOfPattern, place_of_field, text_of_field, parts_in, turn_of, is_long_step, has_long_step, has_uneven_step, is_beyond, has_step_beyond, is_one_range, has_hours_in_range, has_range_down, has_passed_over, has_large_number, has_other_name, has_hidden_field, has_empty_item, has_empty_items, fields_seen};
+ghost use Rattle.croncheck_warnings.specs.Warnings.{texts_of_five, fields_of_schedule, AreFieldsOfPattern, bounds_of_field, text_of_field, parts_in, turn_of, is_long_step, has_long_step, has_uneven_step, is_beyond, has_step_beyond, is_one_range, has_hours_in_range, has_range_down, has_passed_over, has_large_number, has_other_name, has_hidden_field, has_empty_item, has_empty_items, fields_seen};
 
 use super::hidden::has_hidden_within;
 use croner::errors::CronError;
 use croner::parser::PatternField;
 use crontab::bytes::begins_with;
-use crontab::field::{Names, Part, Place};
+use crontab::field::{FieldBounds, Names, Part};
 use crontab::line::word;
 use crontab::list::{is_uneven, names_nothing, parts_of};
 use crontab::notes;
@@ -118,23 +118,23 @@ fn fields_by_count<'l>(words: &[&'l [u8]]) -> Option<Fields<'l>>
     }
 }
 
-fn place(first: u64, last: u64, names: Names) -> Place
+fn bounds(first: u64, last: u64, names: Names) -> FieldBounds
     ensures { result ≡ record { first = first; last = last; names = names } }
 {
-    Place { first, last, names }
+    FieldBounds { first, last, names }
 }
 
 // The values of a field.
-fn place_of_field(field: PatternField) -> Place
-    ensures { result ≡ place_of_field field }
+fn bounds_of_field(field: PatternField) -> FieldBounds
+    ensures { result ≡ bounds_of_field field }
 {
     match field {
-        PatternField::Seconds | PatternField::Minutes => place(0, 59, Names::None),
-        PatternField::Hours => place(0, 23, Names::None),
-        PatternField::DayOfMonth => place(1, 31, Names::None),
-        PatternField::Month => place(1, 12, Names::Months),
-        PatternField::Weekday => place(0, 7, Names::Weekdays),
-        PatternField::Year => place(1, 5_000, Names::None),
+        PatternField::Seconds | PatternField::Minutes => bounds(0, 59, Names::None),
+        PatternField::Hours => bounds(0, 23, Names::None),
+        PatternField::DayOfMonth => bounds(1, 31, Names::None),
+        PatternField::Month => bounds(1, 12, Names::Months),
+        PatternField::Weekday => bounds(0, 7, Names::Weekdays),
+        PatternField::Year => bounds(1, 5_000, Names::None),
     }
 }
 
@@ -234,7 +234,7 @@ impl<'l> Fields<'l> {
     fn parts_in(&self, alloc: Global, field: PatternField) -> Result<Vec<Part>, AllocError>
         ensures { IfOk result (λ parts. parts.items ≡ parts_in field (fields_seen self.now)) }
     {
-        match parts_of(alloc, place_of_field(field), self.text_of(field))? {
+        match parts_of(alloc, bounds_of_field(field), self.text_of(field))? {
             Some(parts) => Ok(parts),
             None => Ok(Vec::new(alloc)),
         }
@@ -281,21 +281,21 @@ impl<'l> Fields<'l> {
     pub fn has_passed_over(&self, field: PatternField) -> bool
         ensures { result ≡ has_passed_over field (fields_seen self.now) }
     {
-        notes::has_passed_over(place_of_field(field), self.text_of(field))
+        notes::has_passed_over(bounds_of_field(field), self.text_of(field))
     }
 
     /// Whether a number of a field is 2^32 or more.
     pub fn has_large_number(&self, field: PatternField) -> bool
         ensures { result ≡ has_large_number field (fields_seen self.now) }
     {
-        notes::has_large_number(place_of_field(field), self.text_of(field))
+        notes::has_large_number(bounds_of_field(field), self.text_of(field))
     }
 
     /// Whether a word of a field is a name, and none of this field.
     pub fn has_other_name(&self, field: PatternField) -> bool
         ensures { result ≡ has_other_name field (fields_seen self.now) }
     {
-        notes::has_other_name(place_of_field(field), self.text_of(field))
+        notes::has_other_name(bounds_of_field(field), self.text_of(field))
     }
 
     /// Whether one of the five fields of a crontab has a byte that hides others.

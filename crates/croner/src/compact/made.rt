@@ -15,7 +15,7 @@ use croner_pattern::pattern::{PatternWords, Unit};
 use std::alloc::Global;
 
 // The job in few words, whose years are found.
-pub(super) fn compacted(alloc: Global, cron: &Cron, years: Years) -> CompactCron
+pub(super) fn compact_cron(alloc: Global, cron: &Cron, years: Years) -> CompactCron
     requires { (year : ℕ) → is_plain (years_field years) year ≡ is_plain (job_of cron.now).years year }
     ensures { IsAlike (timetable_of (job_of cron.now)) (timetable_of (compact_meaning result)) }
 {

@@ -217,7 +217,7 @@ impl<T: CronDateTime> Kept<T> {
         let Ok(places) = places else {
             return Err(CronError::OutOfMemory);
         };
-        Met::found(copy, places, self.is_limited).decide(alloc, direction)
+        Met::of_run(copy, places, self.is_limited).decide(alloc, direction)
     }
 }
 

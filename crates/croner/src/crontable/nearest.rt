@@ -34,7 +34,7 @@ impl<T> Met<T> {
     }
 
     /// A run, with the places of all jobs that run then.
-    pub(super) fn found(run: T, places: Vec<usize>, is_limited: bool) -> Met<T>
+    pub(super) fn of_run(run: T, places: Vec<usize>, is_limited: bool) -> Met<T>
         ensures { result ≡ record { nearest = Some run; places = places; is_limited = is_limited } }
     {
         Met {

@@ -20,7 +20,7 @@ pub fn found_at(alloc: Global, text: &str, start: usize, end: usize) -> Result<S
 
 /// The number of a text's only character, as ` (U+2013)`; nothing if that is ASCII, or is shown by its number.
 fn number_of(alloc: Global, piece: &str) -> Result<String, AllocError> {
-    let Some(c) = lone(piece) else {
+    let Some(c) = only_char(piece) else {
         return Ok(String::new(alloc));
     };
     if c.is_ascii() || is_escaped(alloc, piece)? {
@@ -31,7 +31,7 @@ fn number_of(alloc: Global, piece: &str) -> Result<String, AllocError> {
 }
 
 /// The character of a text that has exactly one.
-fn lone(text: &str) -> Option<char> {
+fn only_char(text: &str) -> Option<char> {
     let mut chars = text.chars();
     let c = chars.next()?;
     match chars.next() {

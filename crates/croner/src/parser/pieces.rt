@@ -22,7 +22,7 @@ impl<'t> Piece<'t> {
     }
 
     /// This place, for a fault.
-    pub fn found(self, expected: Expected) -> Finding
+    pub fn finding(self, expected: Expected) -> Finding
         ensures starts { result.start ≡ self.entry.start }
         ensures ends { self.entry.start + length self.entry.text.now < 2 ^ 64 → result.end ≡ self.entry.start + length self.entry.text.now }
     {

@@ -90,7 +90,7 @@ fn wrong_count(
     let Some(word) = words.get(number.saturating_sub(1)) else {
         unreachable!()
     };
-    Ok(word.found(expected))
+    Ok(word.finding(expected))
 }
 
 /// Why there may be too many fields, or too few.
@@ -380,7 +380,7 @@ fn illegal_character(
     let Some(illegal) = illegal_in_word(alloc, word, field)? else {
         unreachable!()
     };
-    let expected = illegal.expected(place, words, field, text, parser.alternative_weekdays);
+    let expected = illegal.expectation(place, words, field, text, parser.alternative_weekdays);
     Ok(Finding {
         start: illegal.start,
         end: illegal.end,
@@ -439,7 +439,7 @@ struct Illegal {
 
 impl Illegal {
     /// What was expected instead of the character, given the place of its word.
-    fn expected(
+    fn expectation(
         self,
         place: usize,
         words: &[Piece<'_>],
@@ -667,7 +667,7 @@ fn found_within(text: &str, piece: Piece<'_>, whole: Piece<'_>, expected: Expect
             expected,
         };
     }
-    whole.found(expected)
+    whole.finding(expected)
 }
 
 /// The part of a word at a place from 0, without the sign before the word.

@@ -136,7 +136,7 @@ impl<'s, T: CronDateTime> SideSearch<'s, T> {
             return Ok(None);
         };
         while around.outside - around.inside > 1 {
-            around = self.narrow(around);
+            around = self.halve(around);
         }
         let side = around.answer?;
         Ok(Some(side))
@@ -170,7 +170,7 @@ impl<'s, T: CronDateTime> SideSearch<'s, T> {
     }
 
     // The same with half the seconds between the two.
-    fn narrow(&self, around: Around<T>) -> Around<T>
+    fn halve(&self, around: Around<T>) -> Around<T>
         requires searched { IsSearched (wall_second self.now.skipped) }
         requires wide { around.inside + 1 < around.outside }
         requires around { IsAround T.moment T.can_lack_memory self.now.direction (T.moment self.now.time.now).zone (wall_second self.now.skipped) around }

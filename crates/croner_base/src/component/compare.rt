@@ -80,7 +80,7 @@ impl Ord for CronComponent {
             .then(self.marks.max().cmp(&other.marks.max()))
             .then(self.step.cmp(&other.step))
             .then(self.from_wildcard.cmp(&other.from_wildcard))
-            .then(self.marks.supported().cmp(&other.marks.supported()))
+            .then(self.marks.features().cmp(&other.marks.features()))
             .then(self.enabled_features.cmp(&other.enabled_features))
             .then(self.input_offset.cmp(&other.input_offset))
             .then(self.sloppy_ranges.cmp(&other.sloppy_ranges))
@@ -100,7 +100,7 @@ impl Hash for CronComponent {
         self.marks.max().hash(state);
         self.step.hash(state);
         self.from_wildcard.hash(state);
-        self.marks.supported().hash(state);
+        self.marks.features().hash(state);
         self.enabled_features.hash(state);
         self.input_offset.hash(state);
         self.sloppy_ranges.hash(state);

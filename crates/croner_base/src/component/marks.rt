@@ -104,7 +104,7 @@ impl Marks {
     }
 
     /// The bits of the modifiers that are supported.
-    pub fn supported(&self) -> u8
+    pub fn features(&self) -> u8
         ensures { result ≡ self.now.supported }
     {
         self.supported
@@ -218,7 +218,7 @@ impl Marks {
     pub fn least_from(&self, value: u16) -> Option<u16>
         ensures { MatchOption result (NoneFrom (is_set 1 self.now) value) (λ least. IsLeast (is_set 1 self.now) value least) }
     {
-        match row::least_from(self.plain(), value) {
+        match row::least_from(self.plain_row(), value) {
             Some(least) if self.has(least) => Some(least),
             _ => None,
         }
@@ -229,7 +229,7 @@ impl Marks {
     pub fn greatest_to(&self, value: u16) -> Option<u16>
         ensures { MatchOption result (NoneTo (is_set 1 self.now) value) (λ greatest. IsGreatest (is_set 1 self.now) value greatest) }
     {
-        let row = self.plain();
+        let row = self.plain_row();
         if row.is_empty() || self.max == 0 {
             return None;
         }
@@ -245,16 +245,16 @@ impl Marks {
 
     #[inline(always)]
     #[tactic(auto, using(crate::proofs::words::PlainRow::none_past))]
-    fn plain(&self) -> &[u64]
+    fn plain_row(&self) -> &[u64]
         ensures size { length result.now ≤ 1024 }
         ensures full { 0 < length result.now → self.now.max < length result.now * word_bits }
         ensures past { (v : ℕ) → room self.now.max ≤ v → is_set 1 self.now v ≡ false }
         ensures plain { (v : ℕ) → v < room self.now.max → in_row result.now v ≡ is_set 1 self.now v }
     {
         if self.is_in_place {
-            rows::plain(&self.in_place, self.max, ALL_ROWS)
+            rows::plain_row(&self.in_place, self.max, ALL_ROWS)
         } else {
-            rows::plain(&self.on_heap, self.max, self.supported)
+            rows::plain_row(&self.on_heap, self.max, self.supported)
         }
     }
 

@@ -41,7 +41,7 @@ impl CronComponent {
     pub(super) fn unsupported_modifier(&self, value: u16, bit: u8) -> CronError
         ensures { IsFieldError result }
     {
-        let features = self.marks.supported();
+        let features = self.marks.features();
         let modifier = modifier_words(bit);
         refusal(format!(in self.alloc;
             "The value {value} can't be {modifier}: expected bits among {features:#010b}, found {bit:#010b}."
@@ -53,7 +53,7 @@ impl CronComponent {
     pub(super) fn unsupported_feature(&self, feature: u8) -> CronError
         ensures { IsFieldError result }
     {
-        let features = self.marks.supported();
+        let features = self.marks.features();
         let modifier = modifier_words(feature);
         refusal(format!(in self.alloc;
             "This field can't name {modifier}: expected bits among {features:#010b}, found {feature:#010b}."

@@ -146,7 +146,7 @@ impl CronComponent {
     {
         let text = part.text();
         let bit = self.tag(part)?;
-        let (left, right) = self.sides(&part.before(Sign::Hash), Sign::Slash, text)?;
+        let (left, right) = self.sides(&part.part_before(Sign::Hash), Sign::Slash, text)?;
         let step = self.number_in(right, text)?;
         self.handle_sides(&left, step, bit, text)
     }
@@ -195,7 +195,7 @@ impl CronComponent {
     {
         let text = part.text();
         let bit = self.tag(part)?;
-        let (start, end) = self.sides(&part.before(Sign::Hash), Sign::Dash, text)?;
+        let (start, end) = self.sides(&part.part_before(Sign::Hash), Sign::Dash, text)?;
         let start = self.number_in(start.text().trim(), text)?;
         let end = self.number_in(end.trim(), text)?;
         if !self.has_range(start, end) {
@@ -207,7 +207,7 @@ impl CronComponent {
     fn handle_closest_weekday(&mut self, part: &Part<'_>) -> Result<(), CronError>
         ensures { Reads (nearest_weekday self.old.shape part.now) self.old self.new result }
     {
-        let day = part.before(Sign::LetterW).text();
+        let day = part.part_before(Sign::LetterW).text();
         if day == "L" || day == "l" {
             self.enable_feature(LAST_BIT)?;
             return self.enable_feature(CLOSEST_WEEKDAY_BIT);
@@ -223,10 +223,10 @@ impl CronComponent {
             return Err(self.no_nth_here(text));
         }
         if part.ends_in_l() && !part.has(Sign::Hash) {
-            return self.mark_number(part.before(Sign::LetterL).text(), LAST_BIT, text);
+            return self.mark_number(part.part_before(Sign::LetterL).text(), LAST_BIT, text);
         }
         let bit = self.tag(part)?;
-        self.mark_number(part.before(Sign::Hash).text(), bit, text)
+        self.mark_number(part.part_before(Sign::Hash).text(), bit, text)
     }
 
     fn tag(&self, part: &Part<'_>) -> Result<u8, CronError>
@@ -238,7 +238,7 @@ impl CronComponent {
         if !part.has(Sign::Hash) {
             return Ok(ALL_BIT);
         }
-        let nth = part.after(Sign::Hash);
+        let nth = part.text_after(Sign::Hash);
         match number(nth) {
             Some(1) => Ok(NTH_1ST_BIT),
             Some(2) => Ok(NTH_2ND_BIT),
@@ -259,9 +259,9 @@ impl CronComponent {
         ensures { Finds (λ s. (s.0, s.1.now)) (two_of (pieces_at (byte_of sign) head.now)) result }
     {
         if head.has(sign) {
-            let right = head.after(sign);
+            let right = head.text_after(sign);
             if !has(right, sign.character()) {
-                return Ok((head.before(sign), right));
+                return Ok((head.part_before(sign), right));
             }
         }
         Err(self.sign_not_once(sign.character(), part))

@@ -179,7 +179,7 @@ impl<'t> Part<'t> {
 
     /// The text before the first such sign, or all of it where there is none.
     #[inline(always)]
-    pub(super) fn before(&self, sign: Sign) -> Part<'t>
+    pub(super) fn part_before(&self, sign: Sign) -> Part<'t>
         ensures { result ≡ before_first (λ b. b == byte_of sign) self.now }
     {
         let end = self.signs.place(sign);
@@ -191,7 +191,7 @@ impl<'t> Part<'t> {
 
     /// The text after the first such sign, or nothing where there is none.
     #[inline(always)]
-    pub(super) fn after(&self, sign: Sign) -> &'t str
+    pub(super) fn text_after(&self, sign: Sign) -> &'t str
         ensures { result.now ≡ after_first (λ b. b == byte_of sign) self.now }
     {
         let (text, at) = (self.text(), self.signs.place(sign));

@@ -80,11 +80,11 @@ pub(crate) fn days_of_month<P: PatternWords>(pattern: &P, length: u32, first: u3
     requires first { first < 7 }
     ensures { IsDayMask (P.meaning pattern.now) length first result }
 {
-    fitting(pattern, length, first) & whole_month(length)
+    fitting_days(pattern, length, first) & whole_month(length)
 }
 
 /// The days that fit the two day fields, as the stars and the AND flag say.
-fn fitting<P: PatternWords>(pattern: &P, length: u32, first: u32) -> u32
+fn fitting_days<P: PatternWords>(pattern: &P, length: u32, first: u32) -> u32
     requires shapes { has_field_shapes (P.meaning pattern.now) ≡ true }
     requires length { IsInRange 28 31 length }
     requires first { first < 7 }

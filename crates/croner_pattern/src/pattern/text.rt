@@ -55,7 +55,7 @@ impl Text {
 
     /// The same text, in memory of the allocator where it needs some.
     #[inline(always)]
-    pub fn copied(&self, alloc: Global) -> Result<Self, AllocError>
+    pub fn copy(&self, alloc: Global) -> Result<Self, AllocError>
         ensures { IfOk result (λ copy. copy ≡ self.now) }
     {
         let long = if self.long.is_empty() {

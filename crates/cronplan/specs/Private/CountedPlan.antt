@@ -24,4 +24,4 @@ pub record IsCounted (starts : List JobStart) (c : Counted) : Type 0 where
 -- so many dates from a first one on
 pub record AreRows (starts : List JobStart) (c : Counted) (first : ℤ) (count : ℕ) (days : List Day) : Type 0 where
   pub count_is : length days ≡ count
-  pub each : (k : ℕ) (d : Day) → k < length days → IsDay starts c.moments.items c.changes.items (first +ℤ pos k) (slice_index_or days k d)
+  pub each : (k : ℕ) (d : Day) → k < length days → IsDay starts c.moments.items c.changes.items c.shown (first +ℤ pos k) (slice_index_or days k d)

@@ -2,8 +2,9 @@
 ghost use Rattle.std.specs.Prelude.{◌≡◌, ◌++◌, ◌<◌, ◌≤◌, ℕ, length, IfOk, List, OnOk, map, string_bytes};
 ghost use Rattle.std.specs.List.{All};
 ghost use Rattle.croner_base.specs.TableZone.{table_zone};
-ghost use Rattle.cronplan_forms.specs.Answers.{AreHourCounts, IsShownMoment, IsBusy, starts_text, moment_line, moment_lines, hour_line, hour_lines, counted_hour, busy_lines, busy_text};
+ghost use Rattle.cronplan_forms.specs.Answers.{AreHourCounts, IsShownMoment, IsBusy, starts_text, moment_line, moment_lines, hour_line, hour_lines, counted_hour, busy_lines, busy_text, no_moment, shows_all};
 
+use crate::answers::silence::Silence;
 use crate::clock::{ClockTime, TimeOfDay};
 use crate::view::View;
 use croner_base::time::table::ClockTable;
@@ -28,12 +29,15 @@ pub struct ShownMoment {
 ///
 /// The only error is lack of memory.
 pub fn busy_text(alloc: Global, view: View<'_>, most: usize) -> Result<String, AllocError>
-    ensures { IfOk result (λ t. (shown : List ShownMoment) × (hours : List ℕ) × IsBusy (table_zone view.entry.table.now) view.entry.plan.now most shown hours × (string_bytes t ≡ busy_text shown hours)) }
+    ensures { IfOk result (λ t. (shown : List ShownMoment) × (hours : List ℕ) × IsBusy (table_zone view.entry.table.now) view.entry.plan.now most shown hours × (string_bytes t ≡ busy_text (shows_all view.entry) shown hours)) }
 {
     let moments = view.plan.fullest_moments(alloc, most)?;
     let shown = shown_moments(alloc, view.table, moments.as_slice())?;
     let hours = hour_counts(alloc, view.plan)?;
-    text_of_moments(alloc, shown.as_slice(), hours.as_slice())
+    let silence = Silence {
+        is_whole: view.shows_all(),
+    };
+    text_of_moments(alloc, silence, shown.as_slice(), hours.as_slice())
 }
 
 // What the clock of a table shows at moments.
@@ -76,18 +80,26 @@ fn hour_counts(alloc: Global, plan: &Plan) -> Result<Vec<u64>, AllocError>
 
 fn text_of_moments(
     alloc: Global,
+    silence: Silence,
     moments: &[ShownMoment],
     hours: &[u64],
 ) -> Result<String, AllocError>
     requires { length hours.now ≤ 24 }
-    ensures { IfOk result (λ t. string_bytes t ≡ busy_text moments.now hours.now) }
+    ensures { IfOk result (λ t. string_bytes t ≡ busy_text silence.is_whole moments.now hours.now) }
 {
     if moments.is_empty() {
-        return String::from_str(alloc, "no moment: nothing starts\n");
+        return no_moment(alloc, silence);
     }
     let mut text = String::new(alloc);
     push_lines(&mut text, moments, hours)?;
     Ok(text)
+}
+
+#[tactic(auto, unfolding(crate::specs::Answers::no_moment))]
+fn no_moment(alloc: Global, silence: Silence) -> Result<String, AllocError>
+    ensures { IfOk result (λ t. string_bytes t ≡ no_moment silence.is_whole) }
+{
+    format!(in alloc; "no moment: {silence}\n")
 }
 
 #[tactic(auto, unfolding(crate::specs::Answers::busy_lines))]

@@ -1,20 +1,21 @@
 //! What a plan leaves out.
 ghost use Rattle.std.specs.Prelude.{◌≡◌, ◌++◌, IfOk, OnOk, string_bytes};
-ghost use Rattle.cronplan_forms.specs.Answers.{titles_of, title_at, left_out_line, left_out_lines, left_out_of, left_out_title, starts_line, cut_line, left_out_text};
+ghost use Rattle.cronplan_forms.specs.Answers.{titles_of, title_at, left_out_line, left_out_lines, left_out_name, left_out_title, quoted_title, starts_line, cut_line, left_out_text};
 
 use crate::answers::busy::Starts;
+use crate::answers::together::push_label;
 use crate::job::Job;
 use crate::view::View;
 use croner_base::excerpt::Excerpt;
 use cronplan::{Frequent, MOST_STARTS};
 use std::alloc::{AllocError, Global};
 
-/// What a plan leaves out: a line for each job that starts too often, with how many starts it has, and one if the plan ends earlier than
-/// was asked for. Empty if it leaves nothing out.
+/// What a plan leaves out: a line for each job that starts too often, with its file and line, its title and how many starts it has, and one if
+/// the plan ends earlier than was asked for. Empty if it leaves nothing out.
 ///
 /// The only error is lack of memory.
 pub fn left_out_text(alloc: Global, view: View<'_>) -> Result<String, AllocError>
-    ensures { IfOk result (λ t. string_bytes t ≡ left_out_text view.entry.is_cut (titles_of view.entry.jobs.now) view.entry.frequent.now) }
+    ensures { IfOk result (λ t. string_bytes t ≡ left_out_text view.entry) }
 {
     let mut text = String::new(alloc);
     push_frequent(&mut text, view.jobs, view.frequent)?;
@@ -28,7 +29,7 @@ fn push_frequent(
     jobs: &[Job<'_>],
     frequent: &[Frequent],
 ) -> Result<(), AllocError>
-    ensures { OnOk result (string_bytes text.new ≡ string_bytes text.old ++ left_out_lines (titles_of jobs.now) frequent.now) }
+    ensures { OnOk result (string_bytes text.new ≡ string_bytes text.old ++ left_out_lines jobs.now frequent.now) }
 {
     for job in frequent {
         push_line(text, jobs, *job)?;
@@ -36,26 +37,42 @@ fn push_frequent(
     Ok(())
 }
 
+#[tactic(auto, unfolding(crate::specs::Answers::left_out_line))]
 fn push_line(text: &mut String, jobs: &[Job<'_>], job: Frequent) -> Result<(), AllocError>
-    ensures { OnOk result (string_bytes text.new ≡ string_bytes text.old ++ left_out_line (titles_of jobs.now) job) }
+    ensures { OnOk result (string_bytes text.new ≡ string_bytes text.old ++ left_out_line jobs.now job) }
 {
-    push_left_out(text, title_at(jobs, job.job), job.starts)
+    push_name(text, jobs, job.job)?;
+    push_starts(text, job.starts)
 }
 
-#[tactic(auto, unfolding(crate::specs::Answers::left_out_of))]
-fn push_left_out(text: &mut String, title: &str, count: u64) -> Result<(), AllocError>
-    ensures { OnOk result (string_bytes text.new ≡ string_bytes text.old ++ left_out_of title.now count) }
+// Appends to a text which job is left out: that at a place.
+fn push_name(text: &mut String, jobs: &[Job<'_>], place: usize) -> Result<(), AllocError>
+    ensures { OnOk result (string_bytes text.new ≡ string_bytes text.old ++ left_out_name jobs.now place) }
 {
-    push_title(text, title)?;
-    push_starts(text, count)
+    push_titled(text, jobs, place, title_at(jobs, place))
 }
 
+// The same of a job with a title.
 #[tactic(auto, unfolding(crate::specs::Answers::left_out_title))]
+fn push_titled(
+    text: &mut String,
+    jobs: &[Job<'_>],
+    place: usize,
+    title: &str,
+) -> Result<(), AllocError>
+    ensures { OnOk result (string_bytes text.new ≡ string_bytes text.old ++ left_out_title jobs.now place title.now) }
+{
+    text.push_str("left out, since it starts too often: ")?;
+    push_label(text, jobs, place)?;
+    push_title(text, title)
+}
+
+#[tactic(auto, unfolding(crate::specs::Answers::quoted_title))]
 fn push_title(text: &mut String, title: &str) -> Result<(), AllocError>
-    ensures { OnOk result (string_bytes text.new ≡ string_bytes text.old ++ left_out_title title.now) }
+    ensures { OnOk result (string_bytes text.new ≡ string_bytes text.old ++ quoted_title title.now) }
 {
     let title = Excerpt::of(title);
-    write!(text, "left out, since it starts too often: {title}, ")
+    write!(text, " {title}, ")
 }
 
 #[tactic(auto, unfolding(crate::specs::Answers::starts_line))]

@@ -3,7 +3,6 @@ ghost use Rattle.std.specs.Prelude.{◌≡◌, IfOk, string_bytes};
 ghost use Rattle.cronplan_forms.specs.Questions.{IsWeekAnswer, IsMonthAnswer, IsQuietAnswer, IsBusyAnswer, IsTogetherAnswer, IsAnswers, asks_none};
 
 use crate::answers::busy::busy_text;
-use crate::answers::left_out::left_out_text;
 use crate::answers::quiet::quiet_text;
 use crate::answers::together::together_text;
 use crate::apart::push_apart;
@@ -39,19 +38,18 @@ impl Questions {
     }
 }
 
-/// What a plan answers to these: first what it leaves out, then each answer, with an empty line between them.
+/// What a plan answers to these, one answer below the other, with an empty line between them. They are about the jobs that are shown: what is
+/// left out tells `left_out_text`.
 ///
 /// The only error is lack of memory.
 pub fn answers_text(alloc: Global, view: View<'_>, asked: Questions) -> Result<String, AllocError>
     ensures { IfOk result (λ t. IsAnswers view.entry asked (string_bytes t)) }
 {
-    let mut text = left_out_text(alloc, view)?;
-    let week = week_answer(alloc, view, asked.week)?;
+    let mut text = week_answer(alloc, view, asked.week)?;
     let month = month_answer(alloc, view, asked.month)?;
     let quiet = quiet_answer(alloc, view, asked.quiet)?;
     let busy = busy_answer(alloc, view, asked.busy)?;
     let together = together_answer(alloc, view, asked.together)?;
-    push_apart(&mut text, week.as_str())?;
     push_apart(&mut text, month.as_str())?;
     push_apart(&mut text, quiet.as_str())?;
     push_apart(&mut text, busy.as_str())?;

@@ -2,10 +2,11 @@
 ghost use Rattle.std.specs.Prelude.{◌≡◌, ◌++◌, IfOk, List, OnOk, map, string_bytes};
 ghost use Rattle.std.specs.List.{All};
 ghost use Rattle.croner_base.specs.TableZone.{table_zone};
-ghost use Rattle.cronplan_forms.specs.Answers.{IsShownWindow, is_at_edge, is_edge, window_line, no_window, some_windows, quiet_head};
+ghost use Rattle.cronplan_forms.specs.Answers.{IsShownWindow, is_at_edge, is_edge, window_line, no_window, shows_all, some_windows, quiet_head};
 ghost use Rattle.cronplan_forms.specs.WindowRuns.{AreTold, quiet_text};
 
 use crate::answers::runs::{push_runs, told_windows, window_runs};
+use crate::answers::silence::Silence;
 use crate::clock::ClockTime;
 use crate::lasting::Lasting;
 use crate::view::View;
@@ -22,9 +23,9 @@ pub struct ShownWindow {
     pub until: ClockTime,
 }
 
-/// The windows of a plan of at least `least` seconds in which nothing starts: the longest first, of equal ones the one that begins earlier in
-/// the day, then the earlier. A line says from when to when a window is, and how long. If the plan begins or ends with it, `or longer`
-/// follows.
+/// The windows of a plan of at least `least` seconds in which nothing starts, but for the jobs that are left out: the longest first, of equal
+/// ones the one that begins earlier in the day, then the earlier. A line says from when to when a window is, and how long. If the plan begins
+/// or ends with it, `or longer` follows.
 ///
 /// Windows that come again from day to day stand in one line: at the same times of the clock on dates that follow each other, as long, and as
 /// far ahead of UTC. It says on which dates these begin, and where they end on the next day. One that may be longer, or in which the clock is
@@ -32,10 +33,13 @@ pub struct ShownWindow {
 ///
 /// The only error is lack of memory.
 pub fn quiet_text(alloc: Global, view: View<'_>, least: u64) -> Result<String, AllocError>
-    ensures { IfOk result (λ t. (told : List ShownWindow) × AreTold (table_zone view.entry.table.now) view.entry.plan.now least told × (string_bytes t ≡ quiet_text least told)) }
+    ensures { IfOk result (λ t. (told : List ShownWindow) × AreTold (table_zone view.entry.table.now) view.entry.plan.now least told × (string_bytes t ≡ quiet_text (shows_all view.entry) least told)) }
 {
     let told = told_windows(alloc, view, least)?;
-    text_of_windows(alloc, told.as_slice(), least)
+    let silence = Silence {
+        is_whole: view.shows_all(),
+    };
+    text_of_windows(alloc, told.as_slice(), silence, least)
 }
 
 /// What the clock of a table shows at the sides of windows. The only error is lack of memory.
@@ -65,46 +69,50 @@ fn shown_window(table: &ClockTable, window: Window) -> ShownWindow
     }
 }
 
-fn text_of_windows(alloc: Global, windows: &[ShownWindow], least: u64) -> Result<String, AllocError>
-    ensures { IfOk result (λ t. string_bytes t ≡ quiet_text least windows.now) }
+fn text_of_windows(
+    alloc: Global,
+    windows: &[ShownWindow],
+    silence: Silence,
+    least: u64,
+) -> Result<String, AllocError>
+    ensures { IfOk result (λ t. string_bytes t ≡ quiet_text silence.is_whole least windows.now) }
 {
     let runs = window_runs(alloc, windows)?;
     let mut text = String::new(alloc);
-    push_head(&mut text, windows.is_empty(), least)?;
+    push_head(&mut text, windows.is_empty(), silence, least)?;
     push_runs(&mut text, runs.as_slice())?;
     Ok(text)
 }
 
 // The line before the windows, or the one that says there is none.
-fn push_head(text: &mut String, is_empty: bool, least: u64) -> Result<(), AllocError>
-    ensures { OnOk result (string_bytes text.new ≡ string_bytes text.old ++ quiet_head is_empty least) }
+fn push_head(
+    text: &mut String,
+    is_empty: bool,
+    silence: Silence,
+    least: u64,
+) -> Result<(), AllocError>
+    ensures { OnOk result (string_bytes text.new ≡ string_bytes text.old ++ quiet_head is_empty silence.is_whole least) }
 {
     if is_empty {
-        return push_none(text, least);
+        return push_none(text, silence, least);
     }
-    push_some(text, least)
+    push_some(text, silence, least)
 }
 
 #[tactic(auto, unfolding(crate::specs::Answers::no_window))]
-fn push_none(text: &mut String, least: u64) -> Result<(), AllocError>
-    ensures { OnOk result (string_bytes text.new ≡ string_bytes text.old ++ no_window least) }
+fn push_none(text: &mut String, silence: Silence, least: u64) -> Result<(), AllocError>
+    ensures { OnOk result (string_bytes text.new ≡ string_bytes text.old ++ no_window silence.is_whole least) }
 {
     let length = Lasting { seconds: least };
-    write!(
-        text,
-        "no window of {length} or longer in which nothing starts\n"
-    )
+    write!(text, "no window of {length} or longer in which {silence}\n")
 }
 
 #[tactic(auto, unfolding(crate::specs::Answers::some_windows))]
-fn push_some(text: &mut String, least: u64) -> Result<(), AllocError>
-    ensures { OnOk result (string_bytes text.new ≡ string_bytes text.old ++ some_windows least) }
+fn push_some(text: &mut String, silence: Silence, least: u64) -> Result<(), AllocError>
+    ensures { OnOk result (string_bytes text.new ≡ string_bytes text.old ++ some_windows silence.is_whole least) }
 {
     let length = Lasting { seconds: least };
-    write!(
-        text,
-        "windows of {length} or longer in which nothing starts:\n"
-    )
+    write!(text, "windows of {length} or longer in which {silence}:\n")
 }
 
 #[tactic(auto, unfolding(crate::specs::Answers::window_line))]

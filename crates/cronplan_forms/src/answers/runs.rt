@@ -1,11 +1,13 @@
 //! Quiet windows that come again from day to day, in one line.
+ghost use Rattle.std.specs.List.{All};
 ghost use Rattle.std.specs.Ordering.{int_eq};
 ghost use Rattle.std.specs.Prelude.{◌≡◌, ◌++◌, ◌<◌, ◌≤◌, ◌+ℤ◌, pos, suc, IfOk, OnOk, length, map, take, option_copied, string_bytes};
 ghost use Rattle.croner_base.specs.TableZone.{table_zone};
-ghost use Rattle.cronplan_forms.specs.WindowRuns.{AreTold, comes_again, days_line, ends_next_day, ends_on_date, day_text, is_day_later, is_next_date, is_regular, line_to, longest_text, most_longest, run_line, run_lines, shown_date, shown_second, some_longest, window_runs};
+ghost use Rattle.cronplan_forms.specs.WindowRuns.{AreTold, IsRun, comes_again, days_line, ends_next_day, ends_on_date, day_text, is_day_later, is_next_date, is_regular, line_to, longest_head, longest_text, most_longest, run_line, run_lines, shown_date, shown_second, some_longest, window_runs};
 ghost use Rattle.cronplan_forms.specs.Private.Steps.{goes_on, run_steps};
 
 use crate::answers::quiet::{ShownWindow, is_at_edge, push_window, shown_windows};
+use crate::answers::silence::Silence;
 use crate::clock::{ClockTime, second_of_day, weekday_text};
 use crate::date_name::date_of_wall;
 use crate::lasting::Lasting;
@@ -52,7 +54,8 @@ pub(crate) fn window_runs<'w>(
     alloc: Global,
     windows: &'w [ShownWindow],
 ) -> Result<Vec<WindowRun<'w>>, AllocError>
-    ensures { IfOk result (λ runs. map (λ r. r.windows.now) runs.items ≡ window_runs windows.now) }
+    ensures value { IfOk result (λ runs. map (λ r. r.windows.now) runs.items ≡ window_runs windows.now) }
+    ensures each { IfOk result (λ runs. All IsRun (map (λ r. r.windows.now) runs.items)) }
 {
     let mut runs = Vec::new(alloc);
     let mut rest = windows;
@@ -158,7 +161,7 @@ fn shown_second(time: ClockTime) -> u64
     second_of_day(time.civil.wall_second())
 }
 
-/// Puts a line for each of these behind a text. The only error is want of memory; what then stands behind the text is not said.
+/// Puts a line for each of these after a text. The only error is want of memory; what then stands after the text is not said.
 #[tactic(auto, using(crate::proofs::RunSteps::lines_step), unfolding(crate::specs::WindowRuns::run_lines))]
 pub(crate) fn push_runs(text: &mut String, runs: &[WindowRun<'_>]) -> Result<(), AllocError>
     ensures { OnOk result (string_bytes text.new ≡ string_bytes text.old ++ run_lines (map (λ r. r.windows.now) runs.now)) }
@@ -260,31 +263,46 @@ fn day_text(window: &ShownWindow) -> &'static str
     }
 }
 
-/// Puts behind a text a line for each of the first of these, with what stands in front of them; nothing where there is none. The only error is
-/// want of memory; what then stands behind the text is not said.
+/// Puts after a text a line for each of the first of these, with what stands in front of them; nothing where there is none. The only error is
+/// want of memory; what then stands after the text is not said.
 #[tactic(auto, using(crate::proofs::RunSteps::first_lines))]
-pub(crate) fn push_longest(text: &mut String, runs: &[WindowRun<'_>]) -> Result<(), AllocError>
-    ensures { OnOk result (string_bytes text.new ≡ string_bytes text.old ++ longest_text (take most_longest (map (λ r. r.windows.now) runs.now))) }
+pub(crate) fn push_longest(
+    text: &mut String,
+    runs: &[WindowRun<'_>],
+    is_whole: bool,
+) -> Result<(), AllocError>
+    ensures { OnOk result (string_bytes text.new ≡ string_bytes text.old ++ longest_text is_whole (take most_longest (map (λ r. r.windows.now) runs.now))) }
 {
-    push_headed(text, first_runs(runs))
+    push_headed(text, first_runs(runs), Silence { is_whole })
 }
 
 #[tactic(auto, using(crate::proofs::RunSteps::some_lines, crate::proofs::RunSteps::no_line))]
-fn push_headed(text: &mut String, runs: &[WindowRun<'_>]) -> Result<(), AllocError>
-    ensures { OnOk result (string_bytes text.new ≡ string_bytes text.old ++ longest_text (map (λ r. r.windows.now) runs.now)) }
+fn push_headed(
+    text: &mut String,
+    runs: &[WindowRun<'_>],
+    silence: Silence,
+) -> Result<(), AllocError>
+    ensures { OnOk result (string_bytes text.new ≡ string_bytes text.old ++ longest_text silence.is_whole (map (λ r. r.windows.now) runs.now)) }
 {
     if runs.is_empty() {
         return Ok(());
     }
-    push_some(text, runs)
+    push_some(text, runs, silence)
 }
 
 #[tactic(auto, unfolding(crate::specs::WindowRuns::some_longest))]
-fn push_some(text: &mut String, runs: &[WindowRun<'_>]) -> Result<(), AllocError>
-    ensures { OnOk result (string_bytes text.new ≡ string_bytes text.old ++ some_longest (map (λ r. r.windows.now) runs.now)) }
+fn push_some(text: &mut String, runs: &[WindowRun<'_>], silence: Silence) -> Result<(), AllocError>
+    ensures { OnOk result (string_bytes text.new ≡ string_bytes text.old ++ some_longest silence.is_whole (map (λ r. r.windows.now) runs.now)) }
 {
-    text.push_str("longest windows in which nothing starts:\n")?;
+    push_head(text, silence)?;
     push_runs(text, runs)
+}
+
+#[tactic(auto, unfolding(crate::specs::WindowRuns::longest_head))]
+fn push_head(text: &mut String, silence: Silence) -> Result<(), AllocError>
+    ensures { OnOk result (string_bytes text.new ≡ string_bytes text.old ++ longest_head silence.is_whole) }
+{
+    write!(text, "longest windows in which {silence}:\n")
 }
 
 // The first of these runs, as many as are told below a picture.

@@ -133,8 +133,12 @@ fn push_added(text: &mut String, jobs: &[Job<'_>], place: usize) -> Result<(), A
     push_label(text, jobs, place)
 }
 
-// Appends the file and the line of the job at a place to a text.
-fn push_label(text: &mut String, jobs: &[Job<'_>], place: usize) -> Result<(), AllocError>
+/// Appends the file and the line of the job at a place to a text; nothing where there is none.
+pub(crate) fn push_label(
+    text: &mut String,
+    jobs: &[Job<'_>],
+    place: usize,
+) -> Result<(), AllocError>
     ensures { OnOk result (string_bytes text.new ≡ string_bytes text.old ++ label_at (labels_of jobs.now) place) }
 {
     match jobs.get(place) {

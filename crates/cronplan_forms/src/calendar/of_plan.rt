@@ -3,7 +3,7 @@ ghost use Rattle.std.specs.Prelude.{◌≡◌, ◌≤◌, IfOk, IfSome, List, []
 ghost use Rattle.std.specs.List.{All, count_by};
 ghost use Rattle.croner_base.specs.Table.{is_table_second};
 ghost use Rattle.croner_base.specs.Civil.{wall_second};
-ghost use Rattle.cronplan_forms.specs.Answers.{titles_of, left_out_text as what_is_left_out};
+ghost use Rattle.cronplan_forms.specs.Answers.{left_out_text as what_is_left_out};
 ghost use Rattle.cronplan_forms.specs.PlanCalendars.{IsEventOf, IsUtcTable, IsPlanCalendar, equal_before, is_same_job};
 ghost use Rattle.cronplan_forms.specs.Calendars.{calendar_text, most_events};
 

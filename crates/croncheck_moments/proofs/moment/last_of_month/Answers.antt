@@ -10,4 +10,4 @@ returns-in-Some c =
     let fits : SFits w64 c.args.second = search rules in
     let shown : ShowsDate (plain_zone c.args.zone.now) today c.args.second =
     subst (λ (second : ℤ). ShowsDate (plain_zone c.args.zone.now) today second) (to_z-of_z w64 c.args.second fits) c.in-Some.ensures in
-    inr (today, c.last_of_month.result, shown, c.last_of_month.ensures, c.last_second_of.ensures)
+    inr (today, c.last_of_month.result, shown, c.last_of_month.ensures, c.last_before_next.ensures)

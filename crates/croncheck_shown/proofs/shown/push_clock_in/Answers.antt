@@ -1,4 +1,4 @@
-use Rattle.std.proofs.Common.{◌∙◌, w32, w64, FitsSigned, rules}
+use Rattle.std.proofs.Common.{◌∙◌, w64, FitsSigned, rules}
 use Rattle.std.proofs.lemmas.Int.{to_z-of_z}
 use Rattle.jiff.specs.ZoneView.{plain_zone}
 use Rattle.croncheck_shown.proofs.ClockTexts.{clock_said}
@@ -7,9 +7,8 @@ use Rattle.croncheck_shown.proofs.shown.push_clock_in.Goals as goal
 
 pub returns : goal.returns
 returns c =
-    let ahead_fits : FitsSigned w32 c.ahead_of.result = search rules in
     let second_fits : FitsSigned w64 c.second.result = search rules in
     if_ok c.write.result
     (λ is. clock_said c.args.language (plain_zone c.args.shared.now.zone) c.args.run.now c.to_civil.result _ _ _ _ _ _ c.to_civil.ensures c.civil_weekday.ensures c.weekday_text.ensures
-    (to_z-of_z w32 c.ahead_of.result ahead_fits ∙ c.ahead_of.ensures) (to_z-of_z w64 c.second.result second_fits ∙ c.second.ensures.value) is)
+    c.ahead_at.ensures (to_z-of_z w64 c.second.result second_fits ∙ c.second.ensures.value) is)
     c.write.ensures.bytes

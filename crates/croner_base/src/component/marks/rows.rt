@@ -111,7 +111,7 @@ pub fn values_with_any(words: &[u64], max: u16, supported: u8, bits: u8, i: usiz
 /// The row of the plain values, and no word where they aren't supported.
 #[inline(always)]
 #[tactic(auto, using(crate::proofs::words::PlainRow::plain_row, crate::proofs::words::PlainRow::no_plain_row))]
-pub fn plain(words: &[u64], max: u16, supported: u8) -> &[u64]
+pub fn plain_row(words: &[u64], max: u16, supported: u8) -> &[u64]
     requires { length words.now ≡ rows_below supported 8 * width max }
     ensures size { length result.now ≤ 1024 }
     ensures full { 0 < length result.now → max < length result.now * word_bits }

@@ -31,10 +31,11 @@ loop-place-preserved c = λ starts counted.
     omega (arith, ints, same, le, rows.count_is, c.requires.first.low, c.requires.last.high) in
     let moments = c.args.counted.now.moments.items in
     let changes = c.args.counted.now.changes.items in
+    let shown = c.args.counted.now.shown in
     record {
       count_is = omega (arith, rows.count_is, c.in_ok-push.ensures.len);
-      each = each_more (λ (k : ℕ) (day : Day). IsDay starts moments changes (first +ℤ pos k) day) c.loop-place.days.items c.push.new.self.items c.in_ok-day.day
-          c.in_ok-push.ensures.items rows.each (subst (λ (i : ℤ). IsDay starts moments changes i c.in_ok-day.day) date (c.in_ok-day.ensures starts counted));
+      each = each_more (λ (k : ℕ) (day : Day). IsDay starts moments changes shown (first +ℤ pos k) day) c.loop-place.days.items c.push.new.self.items c.in_ok-day.day
+          c.in_ok-push.ensures.items rows.each (subst (λ (i : ℤ). IsDay starts moments changes shown i c.in_ok-day.day) date (c.in_ok-day.ensures starts counted));
     }
 
 pub returns : goal.returns

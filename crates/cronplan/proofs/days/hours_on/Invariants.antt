@@ -10,5 +10,5 @@ invariant-loop-hour l = record {
   count : l.hour ≡ pos (length l.cells.items);
   bound : l.hour ≤ℤ pos 24;
   each : (starts : List JobStart) → IsCounted starts l.fn.counted → (k : ℕ) (d : HourCell) → k < length l.cells.items
-      → get_or l.cells.items k d ≡ cell_of starts l.fn.counted.changes.items (l.fn.date *ℤ pos 24 +ℤ pos k);
+      → get_or l.cells.items k d ≡ cell_of starts l.fn.counted.changes.items l.fn.counted.shown (l.fn.date *ℤ pos 24 +ℤ pos k);
 }

@@ -6,4 +6,4 @@ use Rattle.crontab.proofs.list.parts_of.Given as goal
 
 abbrev pub invariant-loop-piece : goal.invariant-loop-piece
 invariant-loop-piece l =
-    Follows (parts_of l.fn.place l.fn.field) l.parts.items (parts_of_pieces l.fn.place (drop (length l.yielded) (slice_split (λ b. b == 44) l.fn.field)))
+    Follows (parts_of l.fn.bounds l.fn.field) l.parts.items (parts_of_pieces l.fn.bounds (drop (length l.yielded) (slice_split (λ b. b == 44) l.fn.field)))

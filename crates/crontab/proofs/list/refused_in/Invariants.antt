@@ -6,4 +6,4 @@ use Rattle.crontab.proofs.list.refused_in.Given as goal
 
 abbrev pub invariant-loop-piece : goal.invariant-loop-piece
 invariant-loop-piece l =
-    Goes (refused_in l.fn.place l.fn.field) (length l.fn.field) l.start l.fn.place (drop (length l.yielded) (slice_split (λ b. b == 44) l.fn.field))
+    Goes (refused_in l.fn.bounds l.fn.field) (length l.fn.field) l.start l.fn.bounds (drop (length l.yielded) (slice_split (λ b. b == 44) l.fn.field))

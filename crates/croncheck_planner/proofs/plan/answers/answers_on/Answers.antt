@@ -7,7 +7,7 @@ use Rattle.croncheck_planner.proofs.plan.answers.answers_on.Goals as goal
 
 pub returns : goal.returns
 returns c =
-    each_ok (λ text. IsAnswers c.other_view-view.result c.args.questions (string_bytes text)) (λ text. AreAnswersOn c.args.table.now c.args.jobs.now c.args.plan.now c.args.questions (string_bytes text)) c.answers_text.result
+    each_ok (λ text. IsAnswers c.other_view-view.result c.args.questions (string_bytes text)) (λ text. AreAnswersOn c.args.table.now c.args.name.now c.args.jobs.now c.args.found.now c.args.questions (string_bytes text)) c.answers_text.result
     (λ text answers. record {
       told = c.as_slice.result.now;
       shown = c.in_ok-shown.shown;

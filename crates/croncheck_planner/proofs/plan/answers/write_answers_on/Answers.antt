@@ -1,19 +1,17 @@
-use Rattle.std.proofs.Common.{◌∙◌, ℕ, List, string_bytes, subst}
-use Rattle.croncheck_output.specs.Output.{written_of, WritesApart}
+use Rattle.std.proofs.Common.{ℕ, List, string_bytes, subst}
+use Rattle.croncheck_output.specs.Output.{written_of}
+use Rattle.croncheck_planner.specs.PlanAnswers.{WritesOnClock}
 use Rattle.croncheck_output.proofs.OkResults.{if_ok}
 use Rattle.croncheck_planner.proofs.plan.answers.write_answers_on.Goals as goal
 
 pub returns : goal.returns
 returns g c =
     let old = written_of g.W.Write.contents c.args.output.now in
-    let begun = written_of g.W.Write.contents c.write_apart.new.self in
-    let new = written_of g.W.Write.contents c.write_apart-2.new.self in
-    if_ok c.write_apart-2.result
+    let new = written_of g.W.Write.contents c.write_on_clock.new.output in
+    if_ok c.write_on_clock.result
     (λ writes. record {
-      begun = begun;
       text = string_bytes c.in_ok-text.text;
-      head = subst (λ (head : List ℕ). WritesApart head old begun) (c.as_str.ensures.value ∙ c.in_ok-head.ensures) c.in_ok-write_apart.ensures.written;
       answers = c.in_ok-text.ensures;
-      written = subst (λ (end : List ℕ). WritesApart end begun new) c.as_str-2.ensures.value writes;
+      written = subst (λ (text : List ℕ). WritesOnClock c.args.name.now text old new) c.as_str.ensures.value writes;
     })
-    c.write_apart-2.ensures.written
+    c.write_on_clock.ensures

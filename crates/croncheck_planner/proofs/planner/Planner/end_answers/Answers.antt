@@ -11,6 +11,7 @@ returns g c =
     let s = c.args.terms.now.settings.now in
     let shared = c.args.terms.now.shared.now in
     let asked = c.args.self.now.asked in
+    let names = c.args.self.now.names in
     let found = c.in-Ok.found in
     let old = written_of g.W.Write.contents c.args.output.now in
     let new = written_of g.W.Write.contents c.write_answers.new.output in
@@ -18,8 +19,8 @@ returns g c =
     (λ writes. record {
       found = found;
       found_is = c.in-Ok.ensures;
-      written = subst (λ (front : List ℕ). WritesAnswers s shared front c.args.self.now.jobs.items found asked.questions old new)
+      written = subst (λ (front : List ℕ). WritesAnswers s shared names front c.args.self.now.jobs.items found asked.questions old new)
           (c.whose_text-whose.ensures ∙ ap whose_text c.as_slice.ensures.value)
-          (subst (λ (jobs : List Planned). WritesAnswers s shared c.whose_text-whose.result.now jobs found asked.questions old new) c.as_slice-2.ensures.value writes);
+          (subst (λ (jobs : List Planned). WritesAnswers s shared names c.whose_text-whose.result.now jobs found asked.questions old new) c.as_slice-2.ensures.value writes);
     })
     c.write_answers.ensures

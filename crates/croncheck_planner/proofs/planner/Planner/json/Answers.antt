@@ -13,7 +13,7 @@ returns c = record {
   found_is = c.in_ok-found.ensures;
   is_view = c.view_of-view.ensures.view c.args.self.now.jobs.items
       (ap (λ (jobs : List Job). jobs_told jobs) c.as_slice-2.ensures.value ∙ c.in_ok-told.ensures ∙ ap (λ (jobs : List Planned). jobs_planned jobs) c.as_slice.ensures.value);
-  zone_is = c.view_of-view.ensures.zone;
+  zone_is = c.view_of-view.ensures.zone ∙ c.as_str.ensures.value;
   is_json = c.in_ok-text.ensures;
   text_is = c.in_ok-push.ensures.bytes;
 }

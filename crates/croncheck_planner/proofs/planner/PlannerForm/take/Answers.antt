@@ -16,13 +16,16 @@ returns g c =
       begun_schedules = c.begin_file.ensures.schedules;
       begun_jobs = c.begin_file.ensures.jobs;
       begun_asked = c.begin_file.ensures.asked;
+      begun_names = c.begin_file.ensures.names;
       here_is = c.next_line.ensures;
       title_is = c.in_ok-heading.ensures;
       taken_above = c.in_ok-plan_line.ensures.above;
       taken_asked = c.in_ok-plan_line.ensures.asked;
+      taken_names = c.in_ok-plan_line.ensures.names;
       new_above = c.take_heading.ensures.above;
       new_schedules = c.take_heading.ensures.schedules;
       new_jobs = c.take_heading.ensures.jobs;
       new_asked = c.take_heading.ensures.asked;
+      new_names = c.take_heading.ensures.names;
     })
     (c.in_ok-plan_line.ensures.plans c.in_ok-outcome.ensures)

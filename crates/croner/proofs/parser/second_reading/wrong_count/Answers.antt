@@ -38,4 +38,4 @@ returns c =
     let k = word_at_place text pieces place word c.requires.words look.0 look.1 in
     let ends = word_ends text place word.start word.text.now c.utf8.text k.0 in
     let small : word.start + length word.text.now < 2 ^ 64 = search (rules, ends, arith) in
-    rw (c.found.ensures.starts, c.found.ensures.ends small) (found_word s text place word.start word.text.now c.utf8.text k.0 no_at some is_number)
+    rw (c.finding.ensures.starts, c.finding.ensures.ends small) (found_word s text place word.start word.text.now c.utf8.text k.0 no_at some is_number)

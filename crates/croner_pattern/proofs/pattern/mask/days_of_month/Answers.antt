@@ -15,10 +15,10 @@ below place len h = grind (arith, nat_tests)
 
 pub returns : goal.returns
 returns g c place =
-    let fits = c.fitting.result in
+    let fits = c.fitting_days.result in
     let whole = c.whole_month.result in
     bit-of (bit_and fits whole) place
     ∙ ap (λ b. if b then 1 else 0)
     (has-and fits whole place
     ∙ cut (has_bit fits place) (has_bit whole place) (nat_lt place c.args.length) (is_day_matching (g.P.PatternWords.meaning c.args.pattern.now) c.args.length c.args.first (place + 1))
-    (c.whole_month.ensures place) (λ low. c.fitting.ensures place (below place c.args.length low)))
+    (c.whole_month.ensures place) (λ low. c.fitting_days.ensures place (below place c.args.length low)))

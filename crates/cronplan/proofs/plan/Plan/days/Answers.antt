@@ -1,9 +1,12 @@
-use Rattle.std.proofs.Common.{◌≡◌, ◌∙◌, ap, subst, rules, ℤ, List, w64, to_z, of_z, FitsSigned}
+use Rattle.std.proofs.Common.{◌≡◌, ◌∙◌, ◌<◌, ◌+ℤ◌, ap, subst, rules, ℕ, ℤ, pos, List, length, w64, to_z, of_z, FitsSigned}
+use Rattle.std.specs.Prelude.{slice_index_or}
 use Rattle.std.proofs.lemmas.Int.{to_z-of_z}
 use Rattle.croner_base.specs.TableZone.{table_zone}
 use Rattle.croner_base.specs.Zone.{Zone}
+use Rattle.cronplan.specs.declared.days.Day.{Day}
+use Rattle.cronplan.specs.declared.days.ShownHours.{ShownHours}
 use Rattle.cronplan.specs.declared.start.JobStart.{JobStart}
-use Rattle.cronplan.specs.Days.{first_date, last_date, dates_between}
+use Rattle.cronplan.specs.Days.{IsDay, first_date, last_date, dates_between}
 use Rattle.cronplan.specs.Private.CountedPlan.{AreRows}
 use Rattle.cronplan.proofs.plan.Plan.days.Goals as goal
 
@@ -28,5 +31,7 @@ returns c =
       moments = counted.moments.items;
       are_moments = c.in_ok-counted.ensures.counted.are_moments;
       count = rows.count_is;
-      each = rows.each;
+      each = subst (λ (shown : ShownHours). (k : ℕ) (d : Day) → k < length days
+          → IsDay starts counted.moments.items counted.changes.items shown (first_date z span starts +ℤ pos k) (slice_index_or days k d))
+          c.in_ok-counted.ensures.shown rows.each;
     }

@@ -18,7 +18,7 @@ returns c = record {
   found_is = c.in_ok-found.ensures;
   is_view = c.view_of-view.ensures.view c.args.self.now.planner.jobs.items
       (ap (λ (jobs : List Job). jobs_told jobs) c.as_slice-4.ensures.value ∙ c.in_ok-told.ensures ∙ ap (λ (jobs : List Planned). jobs_planned jobs) c.as_slice.ensures.value);
-  zone_is = c.view_of-view.ensures.zone;
+  zone_is = c.view_of-view.ensures.zone ∙ c.as_str.ensures.value;
   title_is = refl;
   ignored_are = refl;
   warnings_are = ap (λ (warnings : List Warnings). map (λ (w : Warnings). lines_told w.lines.now) warnings) c.as_slice-warnings.ensures.value ∙ c.in_ok-warned.ensures

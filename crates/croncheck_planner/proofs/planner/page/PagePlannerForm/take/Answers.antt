@@ -51,5 +51,6 @@ returns g c =
           ∙ ap (λ (above : Vec ℕ Global). unwrap_or (heading y.is y.bytes) above.items) c.in_ok-is_planned.ensures.above
           ∙ ap (λ (above : List ℕ). unwrap_or (heading y.is y.bytes) above) c.begin_file.ensures.above;
       asked = ap (λ (p : Planner). p.asked) c.tell.ensures.planner ∙ c.take_heading.ensures.asked ∙ c.in_ok-is_planned.ensures.asked ∙ c.begin_file.ensures.asked;
+      names = ap (λ (p : Planner). p.names) c.tell.ensures.planner ∙ c.take_heading.ensures.names ∙ c.in_ok-is_planned.ensures.names ∙ c.begin_file.ensures.names;
     })
     c.tell.ensures.told

@@ -10,7 +10,7 @@ returns-clause-copied g c =
     let moment = g.T.CronDateTime.moment in
     let lack = g.T.CronDateTime.can_lack_memory in
     let R : Met g.row.T.Denot → Type 0 = λ met. Decides moment lack c.args.direction (met_of met) met.places c.decide.result in
-    let decided = subst R c.found.ensures c.decide.ensures in
+    let decided = subst R c.of_run.ensures c.decide.ensures in
     item_copied moment lack c.args.direction c.args.run.now c.in-Ok.copy (g.met.T.CronDateTime.clone_keeps c.args.run.now c.in-Ok.copy c.in-Ok.ensures.cases) c.args.self.now.is_limited c.in-Ok-places.places c.decide.result decided
 
 pub returns-clause-places : goal.returns-clause-places
@@ -18,7 +18,7 @@ returns-clause-places g c =
     let moment = g.T.CronDateTime.moment in
     let lack = g.T.CronDateTime.can_lack_memory in
     let R : Met g.row.T.Denot → Type 0 = λ met. Decides moment lack c.args.direction (met_of met) met.places c.decide.result in
-    let decided = subst R c.found.ensures c.decide.ensures in
+    let decided = subst R c.of_run.ensures c.decide.ensures in
     item_places moment lack c.args.direction c.args.run.now c.in-Ok.copy (g.met.T.CronDateTime.clone_keeps c.args.run.now c.in-Ok.copy c.in-Ok.ensures.cases) c.args.self.now.is_limited c.in-Ok-places.places c.args.self.now.waiting.items (each_same c.args.self.now.waiting.items c.in-Ok-places.places.items c.in-Ok-places.ensures.cases.0) c.decide.result decided
 
 pub returns-clause-inside : goal.returns-clause-inside
@@ -26,7 +26,7 @@ returns-clause-inside g c =
     let moment = g.T.CronDateTime.moment in
     let lack = g.T.CronDateTime.can_lack_memory in
     let R : Met g.row.T.Denot → Type 0 = λ met. Decides moment lack c.args.direction (met_of met) met.places c.decide.result in
-    let decided = subst R c.found.ensures c.decide.ensures in
+    let decided = subst R c.of_run.ensures c.decide.ensures in
     item_inside moment lack c.args.direction c.args.run.now c.in-Ok.copy (g.met.T.CronDateTime.clone_keeps c.args.run.now c.in-Ok.copy c.in-Ok.ensures.cases) c.args.self.now.is_limited c.in-Ok-places.places c.decide.result decided
 
 pub returns-clause-refused : goal.returns-clause-refused
@@ -34,5 +34,5 @@ returns-clause-refused g c =
     let moment = g.T.CronDateTime.moment in
     let lack = g.T.CronDateTime.can_lack_memory in
     let R : Met g.row.T.Denot → Type 0 = λ met. Decides moment lack c.args.direction (met_of met) met.places c.decide.result in
-    let decided = subst R c.found.ensures c.decide.ensures in
+    let decided = subst R c.of_run.ensures c.decide.ensures in
     item_refused moment lack c.args.direction c.args.run.now c.in-Ok.copy (g.met.T.CronDateTime.clone_keeps c.args.run.now c.in-Ok.copy c.in-Ok.ensures.cases) c.args.self.now.is_limited c.in-Ok-places.places c.decide.result decided
