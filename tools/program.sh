@@ -104,9 +104,9 @@ set_jobs() {
     export RT_JOBS
 }
 
-# ---- a folder for temporary files, and a command behind, both gone when the script ends, also by a signal
+# ---- a folder for temporary files, a command behind, and one that works beside, all gone when the script ends, also by a signal
 
-room='' is_behind=no
+room='' is_behind=no beside=''
 
 # The signals that end a script, by the numbers of Linux: HUP INT QUIT USR1 USR2 PIPE ALRM TERM XCPU XFSZ VTALRM PROF.
 signals='1 2 3 10 12 13 14 15 24 25 26 27'
@@ -148,6 +148,7 @@ become() {
 # Told to end, rt ends what it started.
 stop_behind() {
     [ $is_behind = no ] || { kill "$!" && wait "$!"; } 2>/dev/null
+    [ -z "$beside" ] || { kill "$beside" && wait "$beside"; } 2>/dev/null
 }
 
 # A second signal would cut it short.
