@@ -104,7 +104,7 @@ set_jobs() {
     export RT_JOBS
 }
 
-# ---- a folder for temporary files, a command behind, and one that works beside, all gone when the script ends, also by a signal
+# ---- a folder for temporary files, a command behind, and others that work beside it, all gone when the script ends, also by a signal
 
 room='' is_behind=no beside=''
 
@@ -148,7 +148,8 @@ become() {
 # Told to end, rt ends what it started.
 stop_behind() {
     [ $is_behind = no ] || { kill "$!" && wait "$!"; } 2>/dev/null
-    [ -z "$beside" ] || { kill "$beside" && wait "$beside"; } 2>/dev/null
+    # shellcheck disable=SC2086
+    [ -z "$beside" ] || { kill $beside && wait $beside; } 2>/dev/null
 }
 
 # A second signal would cut it short.

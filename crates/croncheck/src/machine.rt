@@ -46,6 +46,11 @@ impl<'r> Machine<'r> {
         }
     }
 
+    /// Its users, where they are known.
+    pub fn users(&self) -> Option<Users<'r>> {
+        self.users
+    }
+
     /// Its crontabs: that of the system, the folder of further ones and that of the users'. What isn't there is said on standard
     /// error.
     pub fn crontabs(&self) -> io::Result<Vec<Asked<'r>>> {

@@ -15,7 +15,6 @@ use croncheck_files::root::{Root, root_at};
 use croncheck_forms::annotator::{Annotator, Style};
 use croncheck_forms::json_checker::JsonChecker;
 use croncheck_forms::json_reporter::JsonReporter;
-use croncheck_forms::patterns::{Answer, tell_patterns};
 use croncheck_forms::sarif::Sarif;
 use croncheck_forms::sarif::rules::RULES;
 use croncheck_moments::moment::{
@@ -36,6 +35,7 @@ use croncheck_runs::past::PastClock;
 use croncheck_runs::previous::Previous;
 use croncheck_runs::runs::Listing;
 use croncheck_shown::checker::Checker;
+use croncheck_shown::patterns::{Answer, tell_patterns};
 use croncheck_shown::reporter::Reporter;
 use croncheck_warnings::users::Users;
 use crontab::line::Dialect;
@@ -113,17 +113,44 @@ fn check_in_zone(rt: &HostRuntime, call: &Call<'_>) -> Result<u8, Problem> {
         return check_in_ruled_zone(rt, call, zone);
     }
     let zones = TimeZoneDatabase::from_env(rt).map_err(Problem::Zone)?;
-    if call.zone == LOCAL {
-        if call.root.is_some() {
-            return check_in_zone_of_machine(rt, call, &zones);
-        }
-        let system = SystemTimeZone::read(rt).map_err(Problem::Zone)?;
-        let zone = system.time_zone(&zones).map_err(Problem::Zone)?;
-        return check(rt, call, zone);
+    check_in_zone_of(rt, call, &zones)
+}
+
+fn check_in_zone_of(
+    rt: &HostRuntime,
+    call: &Call<'_>,
+    zones: &TimeZoneDatabase,
+) -> Result<u8, Problem> {
+    if call.zone == LOCAL && call.root.is_some() {
+        return check_in_zone_of_machine(rt, call, zones);
     }
-    match zones.get(call.zone) {
-        Ok(zone) => check(rt, call, zone),
-        Err(jiff::Error::TimeZoneNotFound) => Err(problem_of_no_zone(rt, &zones, call.zone)),
+    if call.zone == LOCAL {
+        let system = SystemTimeZone::read(rt).map_err(Problem::Zone)?;
+        return check_in_zone_of_system(rt, call, zones, &system);
+    }
+    let zone = named_zone(rt, zones, call.zone)?;
+    check(rt, call, zone)
+}
+
+fn check_in_zone_of_system(
+    rt: &HostRuntime,
+    call: &Call<'_>,
+    zones: &TimeZoneDatabase,
+    system: &SystemTimeZone,
+) -> Result<u8, Problem> {
+    let zone = system.time_zone(zones).map_err(Problem::Zone)?;
+    check(rt, call, zone)
+}
+
+// The zone of a name.
+fn named_zone<'z>(
+    rt: &HostRuntime,
+    zones: &'z TimeZoneDatabase,
+    name: &str,
+) -> Result<TimeZone<'z>, Problem> {
+    match zones.get(name) {
+        Ok(zone) => Ok(zone),
+        Err(jiff::Error::TimeZoneNotFound) => Err(problem_of_no_zone(rt, zones, name)),
         Err(error) => Err(Problem::Zone(error)),
     }
 }
@@ -136,12 +163,25 @@ fn check_in_zone_of_machine(
 ) -> Result<u8, Problem> {
     let root = root_of(rt, call.root)?;
     let path = root.clock.as_str();
-    let target = match fs::read_link(rt, path) {
-        Ok(target) => target,
-        Err(error) if error.kind() == ErrorKind::OutOfMemory => return Err(Problem::OutOfMemory),
-        Err(_) => return check_in_zone_of_file(rt, call, path),
-    };
-    let Some(name) = zone_name(target.as_path().to_string_lossy()) else {
+    match fs::read_link(rt, path) {
+        Ok(target) => {
+            let name = zone_name(target.as_path().to_string_lossy());
+            check_in_linked_zone(rt, call, zones, path, name)
+        }
+        Err(error) if error.kind() == ErrorKind::OutOfMemory => Err(Problem::OutOfMemory),
+        Err(_) => check_in_zone_of_file(rt, call, path),
+    }
+}
+
+// Checks in the zone to whose file that of a machine is a link, if it is one to a zone's.
+fn check_in_linked_zone(
+    rt: &HostRuntime,
+    call: &Call<'_>,
+    zones: &TimeZoneDatabase,
+    path: &str,
+    name: Option<&str>,
+) -> Result<u8, Problem> {
+    let Some(name) = name else {
         return check_in_zone_of_file(rt, call, path);
     };
     let Ok(()) = announce_zone(rt, path, name) else {
@@ -255,16 +295,33 @@ fn check(rt: &HostRuntime, call: &Call<'_>, zone: TimeZone<'_>) -> Result<u8, Pr
         return check_in(rt, call, zone, Some(other));
     }
     let zones = TimeZoneDatabase::from_env(rt).map_err(Problem::Zone)?;
+    check_beside_zone_of(rt, call, zone, &zones, word)
+}
+
+fn check_beside_zone_of(
+    rt: &HostRuntime,
+    call: &Call<'_>,
+    zone: TimeZone<'_>,
+    zones: &TimeZoneDatabase,
+    word: &str,
+) -> Result<u8, Problem> {
     if word == LOCAL {
         let system = SystemTimeZone::read(rt).map_err(Problem::Zone)?;
-        let other = system.time_zone(&zones).map_err(Problem::Zone)?;
-        return check_in(rt, call, zone, Some(other));
+        return check_beside_zone_of_system(rt, call, zone, zones, &system);
     }
-    match zones.get(word) {
-        Ok(other) => check_in(rt, call, zone, Some(other)),
-        Err(jiff::Error::TimeZoneNotFound) => Err(problem_of_no_zone(rt, &zones, word)),
-        Err(error) => Err(Problem::Zone(error)),
-    }
+    let other = named_zone(rt, zones, word)?;
+    check_in(rt, call, zone, Some(other))
+}
+
+fn check_beside_zone_of_system(
+    rt: &HostRuntime,
+    call: &Call<'_>,
+    zone: TimeZone<'_>,
+    zones: &TimeZoneDatabase,
+    system: &SystemTimeZone,
+) -> Result<u8, Problem> {
+    let other = system.time_zone(zones).map_err(Problem::Zone)?;
+    check_in(rt, call, zone, Some(other))
 }
 
 fn is_now(moment: Moment) -> bool {
@@ -274,56 +331,147 @@ fn is_now(moment: Moment) -> bool {
     }
 }
 
+// The zone whose clock is shown, and the other that is.
+#[derive(Clone, Copy)]
+struct Zones<'z> {
+    zone: TimeZone<'z>,
+    other: Option<TimeZone<'z>>,
+}
+
+// From where on runs are listed, and which.
+#[derive(Clone, Copy)]
+struct Start {
+    second: i64,
+    listing: Listing,
+}
+
 fn check_in<'z>(
     rt: &HostRuntime,
     call: &Call<'_>,
     zone: TimeZone<'z>,
-    other_zone: Option<TimeZone<'z>>,
+    other: Option<TimeZone<'z>>,
 ) -> Result<u8, Problem> {
+    let start = start_of(rt, call, &zone)?;
+    check_from(rt, call, Zones { zone, other }, start)
+}
+
+// Where the call begins and ends.
+fn start_of(rt: &HostRuntime, call: &Call<'_>, zone: &TimeZone<'_>) -> Result<Start, Problem> {
     let now = Timestamp::now(rt).map_err(Problem::Now)?.as_second();
-    let from = from_of(call, &zone, now);
-    let Some(first) = second_of(from, &zone, now) else {
+    let from = from_of(call, zone, now);
+    let Some(first) = second_of(from, zone, now) else {
         return Err(Problem::SkippedFrom);
     };
     let listing = match call.span {
-        Span::Count(count) => listing_of(call, count, &zone, first),
-        Span::Until(moment) => match last_up_to(moment, &zone, now) {
+        Span::Count(count) => listing_of(call, count, zone, first),
+        Span::Until(moment) => match last_up_to(moment, zone, now) {
             Some(last) if last < first => return Err(Problem::UntilBeforeFrom),
             Some(last) => Listing::Until(last),
             None => return Err(Problem::SkippedUntil),
         },
     };
-    let start = start_from(from, first);
-    let clock = Clock::of(rt.alloc(), &zone, start).map_err(Problem::Clock)?;
-    let Ok(changes) = Changes::of(rt.alloc(), &clock, start) else {
-        return Err(Problem::OutOfMemory);
-    };
-    let past = past_of(rt, call, &zone, start)?;
+    Ok(Start {
+        second: start_from(from, first),
+        listing,
+    })
+}
+
+// Checks with the clock of the zone, and its changes, from a start on.
+fn check_from(
+    rt: &HostRuntime,
+    call: &Call<'_>,
+    zones: Zones<'_>,
+    start: Start,
+) -> Result<u8, Problem> {
+    let clock = Clock::of(rt.alloc(), &zones.zone, start.second).map_err(Problem::Clock)?;
+    match Changes::of(rt.alloc(), &clock, start.second) {
+        Ok(changes) => check_around(rt, call, zones, start, &changes),
+        Err(_) => Err(Problem::OutOfMemory),
+    }
+}
+
+// Checks with the clock of the runs before the start too, where the call asks for them.
+fn check_around(
+    rt: &HostRuntime,
+    call: &Call<'_>,
+    zones: Zones<'_>,
+    start: Start,
+    changes: &Changes<'_>,
+) -> Result<u8, Problem> {
+    let past = past_of(rt, call, &zones.zone, start.second)?;
     let previous = previous_in(call, &past);
+    let clocks = Clocks {
+        zones,
+        listing: start.listing,
+        changes,
+        previous: previous.as_ref(),
+    };
+    check_on_machine(rt, call, clocks)
+}
+
+// What is known of the clocks of a call.
+#[derive(Clone, Copy)]
+struct Clocks<'t> {
+    zones: Zones<'t>,
+    listing: Listing,
+    changes: &'t Changes<'t>,
+    previous: Option<&'t Previous<'t>>,
+}
+
+// Checks with the files of the machine, and its users.
+fn check_on_machine(rt: &HostRuntime, call: &Call<'_>, clocks: Clocks<'_>) -> Result<u8, Problem> {
     let root = root_of(rt, call.root)?;
     let users = users_text(rt, call, &root).map_err(Problem::Users)?;
-    let Ok(names) = copies_of(rt, call.allowed.as_slice()) else {
-        return Err(Problem::OutOfMemory);
-    };
-    let Ok(allowed) = texts_of(rt, names.as_slice()) else {
-        return Err(Problem::OutOfMemory);
-    };
-    let settings = settings_of(
-        call,
-        &changes,
-        listing,
-        previous.as_ref(),
-        look_of(rt, call),
-        allowed.as_slice(),
-        known_users(&users),
-    );
-    let shared = Shared::of(zone, settings.of(Dialect::User));
-    let shared = match other_zone {
+    let machine = Machine::new(rt, &root, call.root.is_some(), known_users(&users));
+    check_allowed(rt, call, clocks, &machine)
+}
+
+// Checks with the names of the warnings that are allowed.
+fn check_allowed(
+    rt: &HostRuntime,
+    call: &Call<'_>,
+    clocks: Clocks<'_>,
+    machine: &Machine<'_>,
+) -> Result<u8, Problem> {
+    match copies_of(rt, call.allowed.as_slice()) {
+        Ok(names) => check_with_names(rt, call, clocks, machine, names.as_slice()),
+        Err(_) => Err(Problem::OutOfMemory),
+    }
+}
+
+fn check_with_names(
+    rt: &HostRuntime,
+    call: &Call<'_>,
+    clocks: Clocks<'_>,
+    machine: &Machine<'_>,
+    names: &[String],
+) -> Result<u8, Problem> {
+    match texts_of(rt, names) {
+        Ok(allowed) => check_by_settings(rt, call, clocks, machine, allowed.as_slice()),
+        Err(_) => Err(Problem::OutOfMemory),
+    }
+}
+
+fn check_by_settings(
+    rt: &HostRuntime,
+    call: &Call<'_>,
+    clocks: Clocks<'_>,
+    machine: &Machine<'_>,
+    allowed: &[&str],
+) -> Result<u8, Problem> {
+    let settings = settings_of(call, clocks, look_of(rt, call), allowed, machine.users());
+    let shared = shared_by(clocks.zones, settings.of(Dialect::User));
+    let kinds = TermsByKind::new(rt.alloc(), &settings, &shared);
+    tell_of_machine(rt, call, &kinds, machine)
+}
+
+// What all reports share, whose clocks are those of the zones.
+fn shared_by<'z>(zones: Zones<'z>, settings: &Settings<'_>) -> Shared<'z> {
+    let shared = Shared::of(zones.zone, settings);
+    match zones.other {
         Some(other) => shared.with_other_zone(other),
         None => shared,
-    };
-    let kinds = TermsByKind::new(rt.alloc(), &settings, &shared);
-    tell_of_machine(rt, call, &kinds, &root, &users)
+    }
 }
 
 // Where runs are listed from: at the begin of the month where the grid of one is asked for and no word says it.
@@ -386,28 +534,24 @@ fn previous_in<'p>(call: &Call<'_>, past: &'p Option<PastClock>) -> Option<Previ
     }
 }
 
-// Tells of the crontabs of the machine that is checked, or of the files that the words name. These are the machine's users.
+// Tells of the crontabs of the machine that is checked, or of the files that the words name.
 fn tell_of_machine(
     rt: &HostRuntime,
     call: &Call<'_>,
     kinds: &TermsByKind<'_, '_>,
-    root: &Root,
-    users: &Option<Vec<u8>>,
+    machine: &Machine<'_>,
 ) -> Result<u8, Problem> {
-    let machine = Machine::new(rt, root, call.root.is_some(), known_users(users));
     if call.root.is_none() {
-        return tell(rt, call, kinds, &machine, call.files.as_slice());
+        return tell(rt, call, kinds, machine, call.files.as_slice());
     }
     let files = machine.crontabs().map_err(Problem::Root)?;
-    tell(rt, call, kinds, &machine, files.as_slice())
+    tell(rt, call, kinds, machine, files.as_slice())
 }
 
 // What reports are made by.
 fn settings_of<'t>(
     call: &Call<'_>,
-    changes: &'t Changes<'t>,
-    listing: Listing,
-    previous: Option<&'t Previous<'t>>,
+    clocks: Clocks<'t>,
     look: Look,
     allowed: &'t [&'t str],
     users: Option<Users<'t>>,
@@ -417,10 +561,10 @@ fn settings_of<'t>(
         parser: call.parser,
         preset: call.preset,
         language: call.language,
-        changes,
-        listing,
+        changes: clocks.changes,
+        listing: clocks.listing,
         is_from_now: is_now(call.from),
-        previous,
+        previous: clocks.previous,
         tells_often: call.tells_often,
         is_strict: call.is_strict,
         compares_jobs: call.compares_jobs,

@@ -13,11 +13,11 @@ use croncheck_files::names::{
 };
 use croncheck_moments::moment::{Moment, read_moment};
 use croncheck_output::escaped::push_shown;
-use croncheck_planner::planner::PlanAsked;
 use croncheck_report::allowed::{ALLOWABLE, nearest_name};
 use croncheck_report::settings::Tongue;
 use croner::parser::{CronParser, Seconds, Year};
 use croner_presets::Preset;
+use cronplan_forms::PlanAsked;
 use jiff::civil::Date;
 use options::{program, verb_of, verb_with, verbs_with};
 use planning::{output, plan_asked};
@@ -280,7 +280,9 @@ fn call_of<'w>(alloc: Global, verb: Verb, matches: &ArgMatches<'w>) -> Result<Ca
     let from = moment(alloc, FROM, matches.get_str("from").unwrap_or("now"))?;
     let span = span_of(alloc, verb, matches)?;
     let previous = previous_of(alloc, matches)?;
-    let files = files(alloc, verb, matches)?;
+    let width = width(alloc, matches)?;
+    let plan = plan_asked(alloc, verb, matches)?;
+    let named = named_words(alloc, verb, matches)?;
     Ok(Call {
         verb,
         zone: matches.get_str("zone").unwrap_or(NO_ZONE),
@@ -293,17 +295,40 @@ fn call_of<'w>(alloc: Global, verb: Verb, matches: &ArgMatches<'w>) -> Result<Ca
         preset: preset(matches),
         language: language(matches),
         format: format_of(matches),
-        width: width(alloc, matches)?,
+        width,
         color: color_asked(matches),
         is_strict: matches.get_flag("strict"),
         compares_jobs: matches.get_flag("same-job"),
-        allowed: allowed_names(alloc, matches)?,
+        allowed: named.allowed,
         users: matches.get_str("users"),
         root: matches.get_str("root"),
-        files,
-        patterns: patterns(alloc, matches)?,
-        plan: plan_asked(alloc, verb, matches)?,
+        files: named.files,
+        patterns: named.patterns,
+        plan,
         output: output(matches),
+    })
+}
+
+// The files and the patterns that the words name, and the warnings that they allow.
+#[derive(Drop)]
+struct NamedWords<'w> {
+    files: Vec<Asked<'w>>,
+    allowed: Vec<&'w str>,
+    patterns: Vec<&'w str>,
+}
+
+fn named_words<'w>(
+    alloc: Global,
+    verb: Verb,
+    matches: &ArgMatches<'w>,
+) -> Result<NamedWords<'w>, NoCall> {
+    let files = files(alloc, verb, matches)?;
+    let allowed = allowed_names(alloc, matches)?;
+    let patterns = patterns(alloc, matches)?;
+    Ok(NamedWords {
+        files,
+        allowed,
+        patterns,
     })
 }
 

@@ -5,4 +5,3 @@ mod ExamplesSarif
 mod Objects
 mod SarifLines
 mod Sarifs
-mod TypedPatterns

@@ -25,7 +25,7 @@ use Rattle.croncheck_forms.specs.Json.{integer_or_null, count_or_null, often_obj
 use Rattle.croncheck_output.specs.Output.{Written}
 use Rattle.croncheck_reading.specs.Progress.{Reports}
 use Rattle.croncheck_output.specs.Escaped.{exact_text}
-use Rattle.croncheck_shown.specs.Shown.{offset_of}
+use Rattle.croncheck_report.specs.Offsets.{offset_of}
 use Rattle.croncheck_reading.specs.Stand.{Stand}
 
 -- ---- no float

@@ -33,7 +33,7 @@ use Rattle.croncheck_output.specs.Output.{Written}
 use Rattle.croncheck_reading.specs.Tally.{one_more}
 use Rattle.croncheck_reading.specs.Progress.{Reports}
 use Rattle.croncheck_output.specs.Escaped.{exact_text}
-use Rattle.croncheck_shown.specs.Shown.{offset_of}
+use Rattle.croncheck_report.specs.Offsets.{offset_of}
 use Rattle.croncheck_reading.specs.Stand.{Stand}
 
 -- ---- kinds

@@ -1,9 +1,8 @@
-//! Further forms of what is told: JSON, SARIF, the lines that editors and GitHub read, and patterns that are words of the call.
+//! Further forms of what is told: JSON, SARIF, and the lines that editors and GitHub read.
 #![tactic(auto)]
 
 pub mod annotator;
 pub mod json;
 pub mod json_checker;
 pub mod json_reporter;
-pub mod patterns;
 pub mod sarif;

@@ -4,7 +4,7 @@ use Rattle.std.specs.Fmt.{digits}
 use Rattle.std.specs.Prelude.{codes}
 use Rattle.crontab.specs.Line.{Line, never, blank, comment, job, pattern}
 use Rattle.cronplan.specs.declared.start.JobStart.{JobStart}
-use Rattle.croncheck_planner.specs.declared.planner.PlanAsked.{PlanAsked}
+use Rattle.cronplan_forms.specs.declared.asked.PlanAsked.{PlanAsked}
 use Rattle.croncheck_runs.specs.declared.runs.Listing.TheVariants as listings
 use Rattle.croncheck_planner.specs.Plan.{first_after, end_after, whole_end, end_up_to, starts_within}
 use Rattle.croncheck_planner.specs.PlanAnswers.{clock_head, unfollowed_text}

@@ -6,7 +6,7 @@ use Rattle.croner.specs.declared.job.Cron.{Cron}
 use Rattle.crontab.specs.Line.{Line}
 use Rattle.croncheck_findings.specs.declared.findings.Finding.{Finding}
 use Rattle.croncheck_output.specs.Output.{Written}
-use Rattle.croncheck_planner.specs.declared.planner.PlanAsked.{PlanAsked}
+use Rattle.cronplan_forms.specs.declared.asked.PlanAsked.{PlanAsked}
 use Rattle.croncheck_planner.specs.PagePlans.{KeepsIf, TellsLine}
 use Rattle.croncheck_planner.specs.Planner.{Jobs}
 use Rattle.croncheck_report.specs.declared.report.Report.{Report}

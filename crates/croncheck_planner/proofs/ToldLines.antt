@@ -3,12 +3,12 @@ use Rattle.std.proofs.Common.{◌≡◌, ◌∙◌, ℕ, List, Option, ap, subst
 use Rattle.std.specs.Prelude.{unwrap_or}
 use Rattle.std.specs.declared.alloc.Global.{Global}
 use Rattle.std.specs.declared.vec.Vec.{Vec}
-use Rattle.cronplan.specs.declared.listing.Schedule.{Schedule}
+use Rattle.cronplan_jobs.specs.declared.listing.Schedule.{Schedule}
 use Rattle.crontab.specs.declared.content.Outcome.{Outcome}
 use Rattle.crontab.specs.declared.line.Entry.{Entry}
 use Rattle.crontab.specs.Checked.{LineRead, IsEntryOf}
 use Rattle.crontab.specs.Content.{IsOutcome}
-use Rattle.croncheck_planner.specs.declared.planner.PlanAsked.{PlanAsked}
+use Rattle.cronplan_forms.specs.declared.asked.PlanAsked.{PlanAsked}
 use Rattle.croncheck_planner.specs.declared.planner.Planned.{Planned}
 use Rattle.croncheck_planner.specs.declared.planner.Planner.{Planner}
 use Rattle.croncheck_report.specs.declared.settings.Settings.{Settings}

@@ -14,7 +14,7 @@ use Rattle.cronplan_page.specs.declared.markup.Line.{Line as PageLine}
 use Rattle.croncheck_findings.specs.declared.findings.Finding.{Finding}
 use Rattle.croncheck_output.specs.declared.severity.Severity.{Severity}
 use Rattle.croncheck_output.specs.declared.severity.Severity.TheVariants as severities
-use Rattle.croncheck_planner.specs.declared.planner.PlanAsked.{PlanAsked}
+use Rattle.cronplan_forms.specs.declared.asked.PlanAsked.{PlanAsked}
 use Rattle.croncheck_planner.specs.declared.planner.page.PagePlanner.{PagePlanner}
 use Rattle.croncheck_report.specs.declared.report.Report.{Report}
 use Rattle.croncheck_report.specs.declared.report.Report.TheVariants as reports

@@ -6,10 +6,10 @@ use Rattle.croner_base.specs.Zone.{Zone}
 use Rattle.croner.specs.declared.job.Cron.{Cron}
 use Rattle.crontab.specs.declared.content.Outcome.{Outcome}
 use Rattle.crontab.specs.declared.content.Outcome.TheVariants as outcomes
-use Rattle.cronplan.specs.declared.listing.Schedule.{Schedule}
+use Rattle.cronplan_jobs.specs.declared.listing.Schedule.{Schedule}
 use Rattle.cronplan.specs.declared.span.Span.{Span}
 use Rattle.cronplan.specs.declared.start.JobStart.{JobStart}
-use Rattle.cronplan.specs.Jobs.{IsPlanOf}
+use Rattle.cronplan_jobs.specs.Jobs.{IsPlanOf}
 use Rattle.croncheck_planner.specs.declared.plan.Ending.{Ending}
 use Rattle.croncheck_planner.specs.declared.plan.Ending.TheVariants as endings
 use Rattle.croncheck_planner.specs.declared.plan.Found.{Found}

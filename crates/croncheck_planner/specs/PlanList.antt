@@ -7,8 +7,8 @@ use Rattle.croner_base.specs.declared.time.table.ClockTable.{ClockTable}
 use Rattle.croner_base.specs.declared.time.table.TableTime.{TableTime}
 use Rattle.croner_base.specs.Table.{is_table_second}
 use Rattle.crontab.specs.Checked.{TakesInTurn}
-use Rattle.cronplan.specs.declared.listing.Schedule.{Schedule}
-use Rattle.cronplan.specs.declared.listing.Schedule.TheVariants as schedules
+use Rattle.cronplan_jobs.specs.declared.listing.Schedule.{Schedule}
+use Rattle.cronplan_jobs.specs.declared.listing.Schedule.TheVariants as schedules
 use Rattle.cronplan.specs.declared.start.JobStart.{JobStart}
 use Rattle.cronplan.specs.Starts.{most_starts}
 use Rattle.croncheck_planner.specs.declared.plan.Ending.{Ending}

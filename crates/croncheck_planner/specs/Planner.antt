@@ -12,11 +12,11 @@ use Rattle.crontab.specs.Checked.{LineRead, IsEntryOf}
 use Rattle.crontab.specs.Content.{IsOutcome}
 use Rattle.crontab.specs.Entries.{entry_seen}
 use Rattle.crontab.specs.Line.{Line, blank, comment, setting, job, pattern, refused}
-use Rattle.cronplan.specs.declared.listing.Schedule.{Schedule}
-use Rattle.cronplan.specs.declared.listing.Schedule.TheVariants as schedules
+use Rattle.cronplan_jobs.specs.declared.listing.Schedule.{Schedule}
+use Rattle.cronplan_jobs.specs.declared.listing.Schedule.TheVariants as schedules
 use Rattle.croncheck_planner.specs.declared.plan.Found.{Found}
-use Rattle.croncheck_planner.specs.declared.planner.FileAsked.{FileAsked}
-use Rattle.croncheck_planner.specs.declared.planner.PlanAsked.{PlanAsked}
+use Rattle.cronplan_forms.specs.declared.asked.FileAsked.{FileAsked}
+use Rattle.cronplan_forms.specs.declared.asked.PlanAsked.{PlanAsked}
 use Rattle.croncheck_planner.specs.declared.planner.Planned.{Planned}
 use Rattle.croncheck_planner.specs.declared.planner.Planner.{Planner}
 use Rattle.croncheck_report.specs.declared.report.Report.{Report}

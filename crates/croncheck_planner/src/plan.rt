@@ -13,7 +13,8 @@ use croncheck_runs::clock::LAST_SECOND as LAST_OF_CLOCK;
 use croncheck_runs::runs::Listing;
 use croner::errors::CronError;
 use croner::time::table::TableTime;
-use cronplan::{Frequent, JobStart, LATEST_END, Plan, Schedule, Span, plan_of};
+use cronplan::{Frequent, JobStart, LATEST_END, Plan, Span};
+use cronplan_jobs::{Schedule, plan_of};
 use std::alloc::Global;
 
 /// How long the spans are in which so many moments are looked for, one after the other, in seconds: an hour, a day, a week, 31 and 366 days,
@@ -104,7 +105,7 @@ pub enum Ending {
 /// What starts of jobs after a start, which isn't in it, and before an end, without those that start more often than so many times on some
 /// day of the clock. Where no number is given, no job is left out.
 ///
-/// The only error is `OutOfMemory`, as that of `cronplan::plan_of`.
+/// The only error is `OutOfMemory`, as that of `cronplan_jobs::plan_of`.
 pub fn found_before(
     alloc: Global,
     jobs: &[Schedule],

@@ -34,27 +34,14 @@ use croncheck_warnings::starred::is_starred;
 use croncheck_warnings::users::is_unknown;
 use croner::Cron;
 use croner::errors::CronError;
-use cronplan::Schedule;
-use cronplan_forms::Questions;
+use cronplan_forms::PlanAsked;
+use cronplan_jobs::Schedule;
 use crontab::content::{Outcome, outcome_of};
 use crontab::line::Entry;
 use crontab_runs::CrontabJob;
 use std::alloc::{AllocError, Global};
 use std::io;
 use std::io::{ErrorKind, Write};
-
-/// What is asked of a plan.
-#[derive(Clone, Copy, Drop)]
-pub struct PlanAsked {
-    /// Commands are shown beside the titles of their jobs.
-    pub has_commands: bool,
-    /// What it answers in place of its list, if anything is asked.
-    pub questions: Questions,
-    /// The most starts on a day of a job that the answers are about, if there is such a number.
-    pub most_a_day: Option<u64>,
-    /// The file that it is asked for, if any: then nothing is written after the files.
-    pub file: Option<FileAsked>,
-}
 
 /// What the zones are called on whose clocks a plan is shown.
 #[derive(Drop)]
@@ -63,17 +50,6 @@ pub struct ClockNames {
     pub zone: String,
     /// The one that is shown besides; empty where there is none.
     pub other: String,
-}
-
-/// A file that a plan is asked for.
-#[derive(Debug, Clone, Copy)]
-pub enum FileAsked {
-    /// A calendar, and how many seconds each of its events lasts, where that is told.
-    Calendar(Option<u64>),
-    /// A page (HTML).
-    Page,
-    /// JSON.
-    Json,
 }
 
 /// What is shown of a job of a plan.

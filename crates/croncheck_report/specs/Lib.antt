@@ -1,5 +1,6 @@
 pub mod Allowed
 pub mod FileSeen
+pub mod Offsets
 pub mod Report
 pub mod Settings
 pub mod Told

@@ -1,10 +1,13 @@
 //! What all reports share.
 ghost use Rattle.std.specs.Prelude.{◌≡◌, None, Some};
+ghost use Rattle.jiff.specs.ZoneView.{plain_zone};
+ghost use Rattle.croncheck_report.specs.Offsets.{offset_of};
 ghost use Rattle.croncheck_report.specs.Settings.{off_from, followed_from, stop_of};
 
 use crate::settings::{Settings, Tongue};
 use croncheck_runs::clock::stop::Stop;
 use croncheck_runs::runs::Listing;
+use croner::time::table::TableTime;
 use jiff::tz::TimeZone;
 
 /// What all reports share.
@@ -56,6 +59,16 @@ impl<'z> Shared<'z> {
             other_zone: Some(other),
             ..self
         }
+    }
+}
+
+/// How many seconds the zone's clock is ahead of UTC at a run.
+pub fn ahead_of(shared: &Shared<'_>, run: &TableTime<'_>) -> i32
+    ensures { result ≡ offset_of (plain_zone shared.now.zone) run.now.second }
+{
+    match run.timestamp() {
+        Ok(instant) => shared.zone.to_offset(instant).seconds(),
+        Err(_) => 0,
     }
 }
 

@@ -7,7 +7,8 @@ use Rattle.croner_base.specs.Civil.{wall_second, weekday_of_second}
 use Rattle.croner_base.specs.TableZone.{table_moment}
 use Rattle.croner_base.specs.Zone.{reading}
 use Rattle.croncheck_report.specs.declared.settings.Tongue.{Tongue}
-use Rattle.croncheck_shown.specs.Shown.{offset_of, weekday_text, clock_text, IsClockTextIn}
+use Rattle.croncheck_report.specs.Offsets.{offset_of}
+use Rattle.croncheck_shown.specs.Shown.{weekday_text, clock_text, IsClockTextIn}
 
 -- the parts that were put after a text are what is shown
 pub clock_said : (language : Tongue) (zone : TimeZone) (run : TableTime) (civil : CivilDateTime) (index : ℕ) (weekday old new : List ℕ) (ahead second : ℤ)

@@ -3,3 +3,4 @@ mod ExamplesAgo
 mod ExamplesOff
 mod ExamplesShown
 mod Found
+mod TypedPatterns

@@ -9,22 +9,14 @@ use Rattle.croner_base.specs.Civil.{wall_second, weekday_of_second}
 use Rattle.croner_base.specs.CivilText.{date_text, time_text}
 use Rattle.croner_base.specs.TableZone.{table_moment}
 use Rattle.croner_base.specs.Zone.{reading}
-use Rattle.croner_base.specs.ZoneTable.{ahead_at}
-use Rattle.croner_base.specs.ZonedZone.{is_timestamp_second}
 use Rattle.croncheck_runs.specs.declared.clock.stop.Stop.{Stop}
 use Rattle.croncheck_report.specs.declared.report.Report.{Report}
 use Rattle.croncheck_report.specs.declared.report.Report.TheVariants as reports
 use Rattle.croncheck_report.specs.declared.settings.Tongue.{Tongue}
 use Rattle.croncheck_report.specs.declared.settings.Tongue.TheVariants as tongues
+use Rattle.croncheck_report.specs.Offsets.{offset_of}
 use Rattle.croncheck_report.specs.Report.{is_setting_found}
 use Rattle.cronplan_forms.specs.Clocks.{ahead_text}
-
--- ---- offsets
-
--- how far a zone's clock is ahead of UTC at a second: what the zone gives for each second that it has, which are those of the years -9998 to
--- 9998 at least
-abbrev pub offset_of : TimeZone → ℤ → ℤ
-offset_of zone second = if is_timestamp_second second then ahead_at zone second else pos 0
 
 -- ---- the clock
 

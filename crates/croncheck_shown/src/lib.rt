@@ -1,8 +1,9 @@
-//! The report of a line as text, and the forms that write it: all of it, or what is found alone.
+//! The report of a line as text, the forms that write it, all of it or what is found alone, and patterns that are words of the call.
 #![tactic(auto)]
 
 mod ago;
 pub mod checker;
 mod off;
+pub mod patterns;
 pub mod reporter;
 pub mod shown;

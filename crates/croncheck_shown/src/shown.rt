@@ -4,7 +4,8 @@ ghost use Rattle.jiff.specs.ZoneView.{plain_zone};
 ghost use Rattle.croner_base.specs.Civil.{weekday_index};
 ghost use Rattle.croncheck_shown.specs.Reported.{AreLinesFound};
 ghost use Rattle.croncheck_output.specs.Front.{cut_at};
-ghost use Rattle.croncheck_shown.specs.Shown.{weekday_text, IsClockText, IsClockTextIn, english_weekday, swedish_weekday, is_told, place_text, offset_of, IsWindowEnd};
+ghost use Rattle.croncheck_report.specs.Offsets.{offset_of};
+ghost use Rattle.croncheck_shown.specs.Shown.{weekday_text, IsClockText, IsClockTextIn, english_weekday, swedish_weekday, is_told, place_text, IsWindowEnd};
 
 mod below;
 mod changes;
@@ -22,7 +23,7 @@ use croncheck_output::look::Look;
 use croncheck_report::location::Location;
 use croncheck_report::report::{JobReport, Report};
 use croncheck_report::settings::Tongue;
-use croncheck_report::shared::Shared;
+use croncheck_report::shared::{Shared, ahead_of};
 use croncheck_runs::clock::stop::Stop;
 use croner::time::table::TableTime;
 use croner::time::{CivilDateTime, CronDateTime, Weekday};
@@ -338,17 +339,7 @@ fn swedish_weekday(weekday: Weekday) -> &'static str
     }
 }
 
-/// How many seconds the zone's clock is ahead of UTC at a run.
-pub fn ahead_of(shared: &Shared<'_>, run: &TableTime<'_>) -> i32
-    ensures { result ≡ offset_of (plain_zone shared.now.zone) run.now.second }
-{
-    match run.timestamp() {
-        Ok(instant) => shared.zone.to_offset(instant).seconds(),
-        Err(_) => 0,
-    }
-}
-
-// The same, as it is shown.
+// How far the zone's clock is ahead of UTC at a run, as it is shown.
 fn ahead_at(shared: &Shared<'_>, run: &TableTime<'_>) -> Ahead
     ensures { result.seconds ≡ offset_of (plain_zone shared.now.zone) run.now.second }
 {

@@ -9,7 +9,6 @@ use Rattle.cronplan.specs.declared.windows.Bound.TheVariants as bounds
 use Rattle.cronplan.specs.declared.windows.Edge.{Edge}
 use Rattle.cronplan.specs.declared.windows.Window.{Window}
 use Rattle.cronplan.specs.Counts.{starts_at}
-use Rattle.cronplan.specs.Jobs.{Seen, shown_of, named_of, end_with}
 use Rattle.cronplan.specs.Moments.{at_second, fullest_cmp}
 use Rattle.cronplan.specs.Private.Gaps.{gaps}
 use Rattle.cronplan.specs.Spans.{is_span}
@@ -76,11 +75,3 @@ spans = (refl, refl)
 -- of two starts at most the third is too many: the span ends at it, or earlier
 cut : (earlier_of (pos 86_400) (second_at day 2) ≡ pos 16_200) × (earlier_of (pos 86_400) (second_at day 3) ≡ pos 86_400)
 cut = (refl, refl)
-
--- a job that is shown, and one that is named with its four starts
-abbrev seen : Bool → Seen
-seen frequent = record { place = 3; starts = day; end = pos 80_000; is_frequent = frequent }
-
-shown_or_named : (shown_of (seen false) ≡ day) × (named_of (seen false) ≡ []) × (shown_of (seen true) ≡ []) × (named_of (seen true) ≡ record { job = 3; starts = 4 } ∷ [])
-    × (end_with (pos 86_400) (seen false) ≡ pos 80_000) × (end_with (pos 86_400) (seen true) ≡ pos 86_400)
-shown_or_named = (refl, refl, refl, refl, refl, refl)

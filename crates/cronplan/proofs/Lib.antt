@@ -9,8 +9,6 @@ pub mod ExamplesTogether
 pub mod FilteredLists
 pub mod FoundOnce
 pub mod GapWindows
-pub mod GatheredJobs
-pub mod JobListings
 pub mod JobSets
 pub mod MomentStarts
 pub mod OtherClocks

@@ -2,8 +2,6 @@ pub mod Changes
 pub mod Counts
 pub mod Days
 pub mod JobDates
-pub mod Jobs
-pub mod Listed
 pub mod Moments
 pub mod OtherClock
 pub mod Spans

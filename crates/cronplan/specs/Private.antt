@@ -1,8 +1,6 @@
 -- Definitions that private contracts alone cite.
 pub mod CountedPlan
 pub mod Gaps
-pub mod Gathered
 pub mod Meetings
 pub mod MomentsUntil
 pub mod Once
-pub mod Placed

@@ -5,9 +5,9 @@ ghost use Rattle.croner_base.specs.TableZone.{table_zone};
 ghost use Rattle.cronplan.specs.Changes.{change_in, changes_in, skips, repeats, skips_hour, repeats_hour};
 
 use crate::counts::hour_of;
-use crate::listing::wall_of;
 use crate::span::Span;
-use croner::time::table::{ClockTable, TableTime};
+use crate::start::wall_of;
+use croner_base::time::table::{ClockTable, TableTime};
 use std::alloc::{AllocError, Global};
 
 /// A change of a clock: at a second it shows something other than what would follow what it showed the second before.

@@ -94,11 +94,7 @@ pub(crate) fn counts_by(
 ///
 /// There may be 2^31 starts at most. The only error is lack of memory.
 #[tactic(auto, using(crate::proofs::CountedStarts::counted))]
-pub(crate) fn is_frequent(
-    alloc: Global,
-    starts: &[JobStart],
-    most_a_day: u64,
-) -> Result<bool, AllocError>
+pub fn is_frequent(alloc: Global, starts: &[JobStart], most_a_day: u64) -> Result<bool, AllocError>
     requires { length starts.now ≤ 2 ^ 31 }
     ensures { IfOk result (λ b. IsTrue b ↔ IsFrequent most_a_day starts.now) }
 {
@@ -111,8 +107,8 @@ pub(crate) fn is_frequent(
     Ok(false)
 }
 
-/// How many starts these are.
-pub(crate) fn count_of(starts: &[JobStart]) -> u64
+/// How many starts these are: 2^31 seconds with a start at most.
+pub fn count_of(starts: &[JobStart]) -> u64
     requires { length starts.now ≤ 2 ^ 31 }
     ensures { result ≡ count_of starts.now }
 {

@@ -13,7 +13,7 @@ use crate::moments::{Moment, moments_of};
 use crate::plan::Plan;
 use crate::span::Span;
 use crate::start::JobStart;
-use croner::time::table::ClockTable;
+use croner_base::time::table::ClockTable;
 use std::alloc::{AllocError, Global};
 use std::collections::BTreeMap;
 

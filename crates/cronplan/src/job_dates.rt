@@ -14,7 +14,7 @@ use crate::days::{date_count, first_date, last_date};
 use crate::plan::Plan;
 use crate::span::Span;
 use crate::start::JobStart;
-use croner::time::table::ClockTable;
+use croner_base::time::table::ClockTable;
 use std::alloc::{AllocError, Global};
 use std::collections::{BTreeMap, BTreeSet};
 

@@ -1,12 +1,11 @@
-//! A plan of jobs: a span of time, the starts of each job in it, all of them in one list, the windows without a start, and counts.
+//! A plan of jobs: a span of time, the starts in it, the windows without a start, and counts. Whose starts these are is the caller's.
 #![tactic(auto)]
 
 mod changes;
 mod counts;
 mod days;
+mod frequent;
 mod job_dates;
-mod jobs;
-mod listing;
 mod moments;
 mod other_clock;
 mod plan;
@@ -16,14 +15,13 @@ mod together;
 mod windows;
 
 pub use changes::ClockChange;
-pub use counts::Unit;
+pub use counts::{Unit, count_of, is_frequent};
 pub use days::{Day, Days, HourCell};
+pub use frequent::Frequent;
 pub use job_dates::{DateRange, JobDates};
-pub use jobs::{Frequent, plan_of};
-pub use listing::Schedule;
 pub use moments::Moment;
-pub use plan::{MOST_STARTS, Plan};
+pub use plan::{MOST_STARTS, Plan, earlier_of};
 pub use span::{EARLIEST_FIRST, LATEST_END, Span};
-pub use start::JobStart;
+pub use start::{JobStart, wall_of};
 pub use together::Together;
 pub use windows::{Bound, Edge, Window};

@@ -4,10 +4,9 @@ ghost use Rattle.std.specs.List.{All};
 ghost use Rattle.croner_base.specs.TableZone.{table_zone};
 ghost use Rattle.cronplan.specs.OtherClock.{shown_on, IsOnClock};
 
-use crate::listing::wall_of;
 use crate::plan::Plan;
-use crate::start::JobStart;
-use croner::time::table::{ClockTable, TableTime};
+use crate::start::{JobStart, wall_of};
+use croner_base::time::table::{ClockTable, TableTime};
 use std::alloc::{AllocError, Global};
 
 impl Plan {

@@ -35,8 +35,8 @@ pub struct Plan {
 }
 
 impl Plan {
-    /// The plan of these starts.
-    pub(crate) fn of_starts(span: Span, starts: Vec<JobStart>) -> Plan
+    /// The plan of these starts, in whatever order they come, none of which may come before the span. Those after its end are left out.
+    pub fn of_starts(span: Span, starts: Vec<JobStart>) -> Plan
         requires { All (λ s. span.first ≤ℤ s.second) starts.items }
         ensures { Merges starts.items span.first span.end result.starts.items result.span }
     {
@@ -97,7 +97,7 @@ fn merge(mut starts: Vec<JobStart>, span: Span) -> (Vec<JobStart>, Span)
 }
 
 /// The earlier of two seconds, or the first where there is no other.
-pub(crate) fn earlier_of(end: i64, other: Option<i64>) -> i64
+pub fn earlier_of(end: i64, other: Option<i64>) -> i64
     ensures { result ≡ earlier_of end other }
 {
     match other {

@@ -30,9 +30,9 @@ impl Span {
         }
     }
 
-    // The last second of a search: the one before its end.
+    /// The last second of a search: the one before its end.
     #[tactic(auto, using(crate::proofs::SpanSeconds::span_ends))]
-    pub(crate) fn until(self) -> Option<i64>
+    pub fn until(self) -> Option<i64>
         ensures { result ≡ Some (self.end -ℤ pos 1) }
     {
         Some(self.last())

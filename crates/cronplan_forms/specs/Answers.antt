@@ -6,7 +6,7 @@ use Rattle.std.specs.List.Sorted.{IsSorted}
 use Rattle.croner_base.specs.Excerpt.{excerpt, excerpt_characters}
 use Rattle.croner_base.specs.Zone.{Zone}
 use Rattle.cronplan.specs.declared.counts.Unit.TheVariants as units
-use Rattle.cronplan.specs.declared.jobs.Frequent.{Frequent}
+use Rattle.cronplan.specs.declared.frequent.Frequent.{Frequent}
 use Rattle.cronplan.specs.declared.plan.Plan.{Plan}
 use Rattle.cronplan.specs.declared.start.JobStart.{JobStart}
 use Rattle.cronplan.specs.declared.windows.Bound.{Bound}

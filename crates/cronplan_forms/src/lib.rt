@@ -4,6 +4,7 @@
 mod ahead;
 mod answers;
 mod apart;
+mod asked;
 mod calendar;
 mod clock;
 mod content_line;
@@ -20,6 +21,7 @@ pub use answers::{
     Questions, ShownMoment, ShownSet, ShownWindow, answers_text, busy_text, left_out_text,
     quiet_text, together_text,
 };
+pub use asked::{FileAsked, PlanAsked};
 pub use calendar::{Calendar, Event, MOST_EVENTS, Naming, calendar_text, plan_calendar};
 pub use clock::{ClockTime, weekday_text};
 pub use content_line::push_content_line;

@@ -4,7 +4,7 @@ use Rattle.std.proofs.lemmas.List.{at_drop_more}
 use Rattle.std.proofs.lemmas.List.Sums.{sum_by_more}
 use Rattle.std.specs.Prelude.{is_some}
 use Rattle.serde_json.specs.Data.{Data}
-use Rattle.cronplan.specs.declared.jobs.Frequent.{Frequent}
+use Rattle.cronplan.specs.declared.frequent.Frequent.{Frequent}
 use Rattle.cronplan.specs.declared.start.JobStart.{JobStart}
 use Rattle.cronplan_forms.specs.declared.job.Job.{Job}
 use Rattle.cronplan_json.specs.Objects.{added_of, starts_of, frequent_count, job_starts, job_object, job_objects}

@@ -1,7 +1,7 @@
 -- Jobs by their places: one more.
 use Rattle.std.proofs.Common.{◌≡◌, ◌∙◌, ◌+◌, ◌<◌, ℕ, suc, List, ◌++◌, length, get_or, drop, ap, sym, add-one, ◌==◌, cond, Some}
 use Rattle.std.proofs.lemmas.List.{at_drop_more}
-use Rattle.cronplan.specs.declared.jobs.Frequent.{Frequent}
+use Rattle.cronplan.specs.declared.frequent.Frequent.{Frequent}
 use Rattle.cronplan_forms.specs.declared.job.Job.{Job}
 use Rattle.cronplan_page.specs.declared.page.Page.{Page}
 use Rattle.cronplan_page.specs.PlanJobs.{frequent_count, line_at, time_lines_from, job_row, job_rows_from}

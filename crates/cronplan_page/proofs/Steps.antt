@@ -3,7 +3,7 @@ use Rattle.std.proofs.Common.{◌≡◌, ◌∙◌, ◌+◌, ◌<◌, ℕ, ℤ, 
 use Rattle.std.specs.List.{flat_map}
 use Rattle.std.proofs.lemmas.List.{at_drop_more}
 use Rattle.cronplan.specs.declared.days.HourCell.{HourCell}
-use Rattle.cronplan.specs.declared.jobs.Frequent.{Frequent}
+use Rattle.cronplan.specs.declared.frequent.Frequent.{Frequent}
 use Rattle.cronplan.specs.declared.span.Span.{Span}
 use Rattle.cronplan.specs.declared.start.JobStart.{JobStart}
 use Rattle.cronplan_forms.specs.declared.job.Job.{Job}

@@ -2,7 +2,7 @@
 use Rattle.std.specs.Prelude.{ℕ, suc, ◌==◌, List, [], ◌∷◌, length, filter, take, ◌++◌, codes, slice_get, Option, Some, None, if◌then◌else◌}
 use Rattle.std.specs.Fmt.{decimal}
 use Rattle.std.specs.List.{flat_map}
-use Rattle.cronplan.specs.declared.jobs.Frequent.{Frequent}
+use Rattle.cronplan.specs.declared.frequent.Frequent.{Frequent}
 use Rattle.cronplan_forms.specs.declared.job.Job.{Job}
 use Rattle.cronplan_forms.specs.Calendars.{times_text}
 use Rattle.cronplan_page.specs.declared.about.Warnings.{Warnings}

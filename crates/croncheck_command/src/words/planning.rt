@@ -3,8 +3,7 @@
 use super::options::{add, flag, value};
 use super::{NoCall, Verb, told_of_misuse};
 use clap::{Arg, ArgMatches, Command};
-use croncheck_planner::planner::{FileAsked, PlanAsked};
-use cronplan_forms::{Questions, Signs};
+use cronplan_forms::{FileAsked, PlanAsked, Questions, Signs};
 use jiff_fmt::friendly::parse_unsigned_duration;
 use std::alloc::{AllocError, Global};
 

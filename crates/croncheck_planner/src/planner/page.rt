@@ -7,7 +7,7 @@ ghost use Rattle.croncheck_planner.specs.PlanFiles.{IsPage};
 ghost use Rattle.croncheck_planner.specs.Planner.{job_planned, jobs_seen};
 ghost use Rattle.croncheck_shown.specs.Shown.{place_text};
 
-use super::{ClockNames, PlanAsked, Planner, is_refused_by_user};
+use super::{ClockNames, Planner, is_refused_by_user};
 use crate::plan::answers::{jobs_of, view_of};
 use crate::plan::title::heading_of;
 use croncheck_findings::findings::{Finding, findings_of};
@@ -23,6 +23,7 @@ use croncheck_report::told::Told;
 use croncheck_runs::runs::Listing;
 use croncheck_shown::reporter::write_ending;
 use croner::errors::CronError;
+use cronplan_forms::PlanAsked;
 use cronplan_page::{About, Line as PageLine, Warnings, page_of};
 use crontab::content::{Outcome, outcome_of};
 use crontab::line::Entry;

@@ -1,6 +1,6 @@
 use Rattle.std.proofs.Common.{◌∙◌, ℕ, ℤ, List, Option, ap, subst}
 use Rattle.croner_base.specs.TableZone.{table_zone}
-use Rattle.cronplan.specs.declared.listing.Schedule.{Schedule}
+use Rattle.cronplan_jobs.specs.declared.listing.Schedule.{Schedule}
 use Rattle.croncheck_planner.specs.declared.planner.Planned.{Planned}
 use Rattle.croncheck_output.specs.Output.{written_of}
 use Rattle.croncheck_planner.specs.Plan.{IsListed}

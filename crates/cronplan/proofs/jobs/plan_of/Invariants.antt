@@ -1,7 +1,0 @@
-use Rattle.std.proofs.Common.{take}
-use Rattle.croner_base.specs.TableZone.{table_zone}
-use Rattle.cronplan.proofs.GatheredJobs.{Gathered}
-use Rattle.cronplan.proofs.jobs.plan_of.Given as goal
-
-abbrev pub invariant-loop-place : goal.invariant-loop-place
-invariant-loop-place l = Gathered (table_zone l.fn.table) l.fn.span l.fn.most_a_day (take l.place l.fn.jobs) l.gathering

@@ -1,0 +1,11 @@
+//! Jobs that are left out of a plan.
+
+/// A job that is left out of a plan because it starts too often.
+#[derive(Debug, Clone, Copy, PartialEq, Eq)]
+pub struct Frequent {
+    /// Its place among the jobs, from 0.
+    pub job: usize,
+    /// How many starts it has in the span. If more than `MOST_STARTS` seconds have one, only those at the first `MOST_STARTS` + 1 are
+    /// counted.
+    pub starts: u64,
+}
