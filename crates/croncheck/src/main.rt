@@ -385,13 +385,13 @@ fn check_from(
 ) -> Result<u8, Problem> {
     let clock = Clock::of(rt.alloc(), &zones.zone, start.second).map_err(Problem::Clock)?;
     match Changes::of(rt.alloc(), &clock, start.second) {
-        Ok(changes) => check_around(rt, call, zones, start, &changes),
+        Ok(changes) => check_with_past(rt, call, zones, start, &changes),
         Err(_) => Err(Problem::OutOfMemory),
     }
 }
 
 // Checks with the clock of the runs before the start too, where the call asks for them.
-fn check_around(
+fn check_with_past(
     rt: &HostRuntime,
     call: &Call<'_>,
     zones: Zones<'_>,
@@ -423,43 +423,17 @@ fn check_on_machine(rt: &HostRuntime, call: &Call<'_>, clocks: Clocks<'_>) -> Re
     let root = root_of(rt, call.root)?;
     let users = users_text(rt, call, &root).map_err(Problem::Users)?;
     let machine = Machine::new(rt, &root, call.root.is_some(), known_users(&users));
-    check_allowed(rt, call, clocks, &machine)
+    check_by_settings(rt, call, clocks, &machine)
 }
 
-// Checks with the names of the warnings that are allowed.
-fn check_allowed(
-    rt: &HostRuntime,
-    call: &Call<'_>,
-    clocks: Clocks<'_>,
-    machine: &Machine<'_>,
-) -> Result<u8, Problem> {
-    match copies_of(rt, call.allowed.as_slice()) {
-        Ok(names) => check_with_names(rt, call, clocks, machine, names.as_slice()),
-        Err(_) => Err(Problem::OutOfMemory),
-    }
-}
-
-fn check_with_names(
-    rt: &HostRuntime,
-    call: &Call<'_>,
-    clocks: Clocks<'_>,
-    machine: &Machine<'_>,
-    names: &[String],
-) -> Result<u8, Problem> {
-    match texts_of(rt, names) {
-        Ok(allowed) => check_by_settings(rt, call, clocks, machine, allowed.as_slice()),
-        Err(_) => Err(Problem::OutOfMemory),
-    }
-}
-
+// Checks by the settings that the call asks for.
 fn check_by_settings(
     rt: &HostRuntime,
     call: &Call<'_>,
     clocks: Clocks<'_>,
     machine: &Machine<'_>,
-    allowed: &[&str],
 ) -> Result<u8, Problem> {
-    let settings = settings_of(call, clocks, look_of(rt, call), allowed, machine.users());
+    let settings = settings_of(call, clocks, look_of(rt, call), machine.users());
     let shared = shared_by(clocks.zones, settings.of(Dialect::User));
     let kinds = TermsByKind::new(rt.alloc(), &settings, &shared);
     tell_of_machine(rt, call, &kinds, machine)
@@ -550,10 +524,9 @@ fn tell_of_machine(
 
 // What reports are made by.
 fn settings_of<'t>(
-    call: &Call<'_>,
+    call: &'t Call<'t>,
     clocks: Clocks<'t>,
     look: Look,
-    allowed: &'t [&'t str],
     users: Option<Users<'t>>,
 ) -> SettingsByKind<'t> {
     SettingsByKind::new(Settings {
@@ -569,27 +542,9 @@ fn settings_of<'t>(
         is_strict: call.is_strict,
         compares_jobs: call.compares_jobs,
         look,
-        allowed,
+        allowed: call.allowed.as_slice(),
         users,
     })
-}
-
-// Copies of names, so that settings borrow from one place alone.
-fn copies_of(rt: &HostRuntime, names: &[&str]) -> Result<Vec<String>, AllocError> {
-    let mut copies = Vec::new(rt.alloc());
-    for name in names.iter() {
-        copies.push(String::from_str(rt.alloc(), name)?)?;
-    }
-    Ok(copies)
-}
-
-// The texts of names.
-fn texts_of<'n>(rt: &HostRuntime, names: &'n [String]) -> Result<Vec<&'n str>, AllocError> {
-    let mut texts = Vec::new(rt.alloc());
-    for name in names.iter() {
-        texts.push(name.as_str())?;
-    }
-    Ok(texts)
 }
 
 // How texts are shown on standard output.
