@@ -93,7 +93,10 @@ record_built() {
 # How many proofs rt may make side by side, where the caller has not said so: one for each processor, but no more than one for each
 # 4 GB of the machine's memory, and at least one.
 set_jobs() {
-    [ -z "${RT_JOBS:-}" ] || return 0
+    case ${RT_JOBS:-} in
+        '' | 0 | *[!0-9]*) ;;
+        *) return 0 ;;
+    esac
     processors=$(nproc 2>/dev/null) || processors=1
     RT_JOBS=$(awk -v jobs="$processors" '
         /^MemTotal:/ { most = int($2 * 1024 / 4e9) }
@@ -111,8 +114,10 @@ room='' is_behind=no beside=''
 # The signals that end a script, by the numbers of Linux: HUP INT QUIT USR1 USR2 PIPE ALRM TERM XCPU XFSZ VTALRM PROF.
 signals='1 2 3 10 12 13 14 15 24 25 26 27'
 
+# Has a signal end the script, at whose end this is done.
 trap_signals() {
-    trap clean_up EXIT
+    # shellcheck disable=SC2064
+    trap "$1" EXIT
     for number in $signals; do
         # shellcheck disable=SC2064
         trap "exit $((128 + number))" "$number"
@@ -120,7 +125,7 @@ trap_signals() {
 }
 
 make_room() {
-    trap_signals
+    trap_signals clean_up
     room=$(mktemp -d 2>/dev/null) || return 1
     case $room in
         /*) ;;
@@ -148,8 +153,12 @@ become() {
 # Told to end, rt ends what it started.
 stop_behind() {
     [ $is_behind = no ] || { kill "$!" && wait "$!"; } 2>/dev/null
+    for each in $beside; do
+        # (one that has ended may have left its number to another process)
+        ! grep -qs "^PPid:.$$\$" "/proc/$each/status" || kill "$each"
+    done 2>/dev/null
     # shellcheck disable=SC2086
-    [ -z "$beside" ] || { kill $beside && wait $beside; } 2>/dev/null
+    [ -z "$beside" ] || wait $beside 2>/dev/null
 }
 
 # A second signal would cut it short.

@@ -113,10 +113,11 @@ fn check_in_zone(rt: &HostRuntime, call: &Call<'_>) -> Result<u8, Problem> {
         return check_in_ruled_zone(rt, call, zone);
     }
     let zones = TimeZoneDatabase::from_env(rt).map_err(Problem::Zone)?;
-    check_in_zone_of(rt, call, &zones)
+    check_in_named_zone(rt, call, &zones)
 }
 
-fn check_in_zone_of(
+// Checks in a zone that isn't a rule.
+fn check_in_named_zone(
     rt: &HostRuntime,
     call: &Call<'_>,
     zones: &TimeZoneDatabase,
@@ -295,10 +296,11 @@ fn check(rt: &HostRuntime, call: &Call<'_>, zone: TimeZone<'_>) -> Result<u8, Pr
         return check_in(rt, call, zone, Some(other));
     }
     let zones = TimeZoneDatabase::from_env(rt).map_err(Problem::Zone)?;
-    check_beside_zone_of(rt, call, zone, &zones, word)
+    check_beside_named_zone(rt, call, zone, &zones, word)
 }
 
-fn check_beside_zone_of(
+// Checks beside a zone that isn't a rule.
+fn check_beside_named_zone(
     rt: &HostRuntime,
     call: &Call<'_>,
     zone: TimeZone<'_>,
@@ -331,14 +333,14 @@ fn is_now(moment: Moment) -> bool {
     }
 }
 
-// The zone whose clock is shown, and the other that is.
+// The zone of the call, and the one that is shown beside it, if any.
 #[derive(Clone, Copy)]
-struct Zones<'z> {
+struct ShownZones<'z> {
     zone: TimeZone<'z>,
     other: Option<TimeZone<'z>>,
 }
 
-// From where on runs are listed, and which.
+// The second from which on runs are listed, and how many or up to when.
 #[derive(Clone, Copy)]
 struct Start {
     second: i64,
@@ -352,7 +354,7 @@ fn check_in<'z>(
     other: Option<TimeZone<'z>>,
 ) -> Result<u8, Problem> {
     let start = start_of(rt, call, &zone)?;
-    check_from(rt, call, Zones { zone, other }, start)
+    check_from(rt, call, ShownZones { zone, other }, start)
 }
 
 // Where the call begins and ends.
@@ -380,7 +382,7 @@ fn start_of(rt: &HostRuntime, call: &Call<'_>, zone: &TimeZone<'_>) -> Result<St
 fn check_from(
     rt: &HostRuntime,
     call: &Call<'_>,
-    zones: Zones<'_>,
+    zones: ShownZones<'_>,
     start: Start,
 ) -> Result<u8, Problem> {
     let clock = Clock::of(rt.alloc(), &zones.zone, start.second).map_err(Problem::Clock)?;
@@ -394,7 +396,7 @@ fn check_from(
 fn check_with_past(
     rt: &HostRuntime,
     call: &Call<'_>,
-    zones: Zones<'_>,
+    zones: ShownZones<'_>,
     start: Start,
     changes: &Changes<'_>,
 ) -> Result<u8, Problem> {
@@ -409,10 +411,10 @@ fn check_with_past(
     check_on_machine(rt, call, clocks)
 }
 
-// What is known of the clocks of a call.
+// What is known of the clocks of a call, and how many runs are listed or up to when.
 #[derive(Clone, Copy)]
 struct Clocks<'t> {
-    zones: Zones<'t>,
+    zones: ShownZones<'t>,
     listing: Listing,
     changes: &'t Changes<'t>,
     previous: Option<&'t Previous<'t>>,
@@ -440,7 +442,7 @@ fn check_by_settings(
 }
 
 // What all reports share, whose clocks are those of the zones.
-fn shared_by<'z>(zones: Zones<'z>, settings: &Settings<'_>) -> Shared<'z> {
+fn shared_by<'z>(zones: ShownZones<'z>, settings: &Settings<'_>) -> Shared<'z> {
     let shared = Shared::of(zones.zone, settings);
     match zones.other {
         Some(other) => shared.with_other_zone(other),

@@ -280,9 +280,8 @@ fn call_of<'w>(alloc: Global, verb: Verb, matches: &ArgMatches<'w>) -> Result<Ca
     let from = moment(alloc, FROM, matches.get_str("from").unwrap_or("now"))?;
     let span = span_of(alloc, verb, matches)?;
     let previous = previous_of(alloc, matches)?;
-    let width = width(alloc, matches)?;
-    let plan = plan_asked(alloc, verb, matches)?;
     let named = named_words(alloc, verb, matches)?;
+    let plan = plan_asked(alloc, verb, matches)?;
     Ok(Call {
         verb,
         zone: matches.get_str("zone").unwrap_or(NO_ZONE),
@@ -295,7 +294,7 @@ fn call_of<'w>(alloc: Global, verb: Verb, matches: &ArgMatches<'w>) -> Result<Ca
         preset: preset(matches),
         language: language(matches),
         format: format_of(matches),
-        width,
+        width: named.width,
         color: color_asked(matches),
         is_strict: matches.get_flag("strict"),
         compares_jobs: matches.get_flag("same-job"),
@@ -309,10 +308,11 @@ fn call_of<'w>(alloc: Global, verb: Verb, matches: &ArgMatches<'w>) -> Result<Ca
     })
 }
 
-// The files and the patterns that the words name, and the warnings that they allow.
+// The files and the patterns that the words name, the warnings that they allow, and the width of lines.
 #[derive(Drop)]
 struct NamedWords<'w> {
     files: Vec<Asked<'w>>,
+    width: Option<usize>,
     allowed: Vec<&'w str>,
     patterns: Vec<&'w str>,
 }
@@ -323,10 +323,12 @@ fn named_words<'w>(
     matches: &ArgMatches<'w>,
 ) -> Result<NamedWords<'w>, NoCall> {
     let files = files(alloc, verb, matches)?;
+    let width = width(alloc, matches)?;
     let allowed = allowed_names(alloc, matches)?;
     let patterns = patterns(alloc, matches)?;
     Ok(NamedWords {
         files,
+        width,
         allowed,
         patterns,
     })

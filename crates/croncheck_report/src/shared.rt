@@ -62,7 +62,8 @@ impl<'z> Shared<'z> {
     }
 }
 
-/// How many seconds the zone's clock is ahead of UTC at a run.
+/// How many seconds the zone's clock is ahead of UTC at a run; 0 at a second that the zone doesn't have, and it has those of the years -9998
+/// to 9998 at least.
 pub fn ahead_of(shared: &Shared<'_>, run: &TableTime<'_>) -> i32
     ensures { result ≡ offset_of (plain_zone shared.now.zone) run.now.second }
 {

@@ -10,7 +10,6 @@ use croncheck_output::output::Output;
 use croncheck_reading::progress::Terms;
 use croncheck_report::file_seen::is_refused;
 use croncheck_report::report::{Report, report_of_line};
-use croner::errors::CronError;
 use crontab::bytes::{Kind, cut};
 use crontab::content::outcome_of;
 use crontab::line::Entry;

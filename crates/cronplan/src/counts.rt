@@ -90,7 +90,7 @@ pub(crate) fn counts_by(
     Ok(counts)
 }
 
-/// Whether on some day that the clock shows there are more than `most` of these starts.
+/// Whether on some day that the clock shows there are more than `most_a_day` of these starts.
 ///
 /// There may be 2^31 starts at most. The only error is lack of memory.
 #[tactic(auto, using(crate::proofs::CountedStarts::counted))]
@@ -107,7 +107,7 @@ pub fn is_frequent(alloc: Global, starts: &[JobStart], most_a_day: u64) -> Resul
     Ok(false)
 }
 
-/// How many starts these are: 2^31 seconds with a start at most.
+/// How many starts these are, by their counts. The slice may have 2^31 elements at most.
 pub fn count_of(starts: &[JobStart]) -> u64
     requires { length starts.now ≤ 2 ^ 31 }
     ensures { result ≡ count_of starts.now }

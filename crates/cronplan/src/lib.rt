@@ -1,4 +1,4 @@
-//! A plan of jobs: a span of time, the starts in it, the windows without a start, and counts. Whose starts these are is the caller's.
+//! A plan of jobs: a span of time, the starts in it, the windows without a start, and counts. The caller says what the jobs are.
 #![tactic(auto)]
 
 mod changes;

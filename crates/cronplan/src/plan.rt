@@ -35,7 +35,8 @@ pub struct Plan {
 }
 
 impl Plan {
-    /// The plan of these starts, in whatever order they come, none of which may come before the span. Those after its end are left out.
+    /// The plan of these starts, in whatever order they come, none of which may come before the span. Those at its end or later are left
+    /// out; where there are more than `MOST_STARTS`, the span of the plan ends earlier.
     pub fn of_starts(span: Span, starts: Vec<JobStart>) -> Plan
         requires { All (λ s. span.first ≤ℤ s.second) starts.items }
         ensures { Merges starts.items span.first span.end result.starts.items result.span }

@@ -30,7 +30,7 @@ impl Span {
         }
     }
 
-    /// The last second of a search: the one before its end.
+    /// Up to which second a search in the span goes: the one before its end. There always is one.
     #[tactic(auto, using(crate::proofs::SpanSeconds::span_ends))]
     pub fn until(self) -> Option<i64>
         ensures { result ≡ Some (self.end -ℤ pos 1) }
