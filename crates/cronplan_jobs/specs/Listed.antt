@@ -1,6 +1,8 @@
 -- The starts of one job in a span. Source: this crate's documentation.
 use Rattle.std.specs.Prelude.{◌≡◌, ◌<◌, ◌≤◌, ◌+◌, ◌⊎◌, ℕ, ℤ, ◌<ℤ◌, ◌≤ℤ◌, List, length}
 use Rattle.std.specs.List.{All, AllPairs, Contains}
+use Rattle.croner_base.specs.declared.errors.CronError.{CronError}
+use Rattle.croner_base.specs.declared.errors.CronError.TheVariants as errors
 use Rattle.croner_base.specs.declared.time.Direction.TheVariants.{Forward}
 use Rattle.croner_base.specs.Zone.{Zone}
 use Rattle.croner.specs.search.Limit.{InSpan}
@@ -39,3 +41,7 @@ pub record ListsJob (schedule : Schedule) (z : Zone) (span : Span) (place : ℕ)
   pub within : end ≤ℤ span.end
   pub whole : (end ≡ span.end) ⊎ (most_starts < length starts)
   pub most : length starts ≤ most_starts + 1
+
+-- why a job isn't listed: memory is lacking, or the clock refuses a date or a second of its search
+abbrev pub IsNotListed : CronError → Type 0
+IsNotListed e = (e ≡ errors.OutOfMemory) ⊎ (e ≡ errors.InvalidDate) ⊎ (e ≡ errors.InvalidTime)

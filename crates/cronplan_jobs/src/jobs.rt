@@ -1,7 +1,8 @@
 //! The plan of jobs.
-ghost use Rattle.std.specs.Prelude.{◌≡◌, ◌≤◌, ◌^◌, ◌↔◌, ◌++◌, IsTrue, IfOk, OnOk, length};
+ghost use Rattle.std.specs.Prelude.{◌≡◌, ◌≤◌, ◌^◌, ◌↔◌, ◌++◌, IsTrue, IfErr, IfOk, OnOk, length};
 ghost use Rattle.croner_base.specs.TableZone.{table_zone};
 ghost use Rattle.cronplan_jobs.specs.Jobs.{IsOver, IsPlanOf};
+ghost use Rattle.cronplan_jobs.specs.Listed.{IsNotListed};
 ghost use Rattle.cronplan_jobs.specs.Private.Gathered.{AddsJob, Names, Shows};
 
 use crate::listing::{Schedule, starts_in};
@@ -24,8 +25,8 @@ struct Gathering {
 /// The plan of jobs in a span, on the clock of a table: the starts of the jobs that are shown, and the jobs that aren't. A job isn't shown
 /// if it has more than `most_a_day` starts on some day that the clock shows. Without that number each job is shown.
 ///
-/// A job's place is its index among the jobs. The only error is `OutOfMemory`, except where the search of a pattern is refused, which
-/// doesn't happen in the searched years.
+/// A job's place is its index among the jobs. The only error is `OutOfMemory`, except where the clock refuses a second or a date of the
+/// search of a pattern, which doesn't happen in the searched years: `InvalidTime` or `InvalidDate`.
 ///
 /// ```
 /// let span = Span::new(1_806_188_400, 1_806_793_200); // a week from 2027-03-28T00:00:00 in Paris
@@ -38,7 +39,8 @@ pub fn plan_of(
     span: Span,
     most_a_day: Option<u64>,
 ) -> Result<(Plan, Vec<Frequent>), CronError>
-    ensures { IfOk result (λ r. IsPlanOf (table_zone table.now) span most_a_day jobs.now r.0.starts.items r.0.span r.1.items) }
+    ensures plan { IfOk result (λ r. IsPlanOf (table_zone table.now) span most_a_day jobs.now r.0.starts.items r.0.span r.1.items) }
+    ensures err { IfErr result IsNotListed }
 {
     let mut gathering = Gathering {
         shown: Vec::new(alloc),
@@ -75,7 +77,8 @@ fn add_job(
     most_a_day: Option<u64>,
     place: usize,
 ) -> Result<(), CronError>
-    ensures { OnOk result (AddsJob (table_zone table.now) span most_a_day place schedule.now gathering.old gathering.new) }
+    ensures adds { OnOk result (AddsJob (table_zone table.now) span most_a_day place schedule.now gathering.old gathering.new) }
+    ensures err { IfErr result IsNotListed }
 {
     let (starts, end) = starts_in(alloc, schedule, table, span, place)?;
     if is_over(alloc, starts.as_slice(), most_a_day)? {

@@ -1,5 +1,5 @@
 //! The starts of one job in a span.
-ghost use Rattle.std.specs.Prelude.{◌≡◌, ◌≤ℤ◌, ◌-ℤ◌, pos, false, true, IfOk, map};
+ghost use Rattle.std.specs.Prelude.{◌≡◌, ◌≤ℤ◌, ◌-ℤ◌, pos, false, true, IfErr, IfOk, map};
 ghost use Rattle.std.specs.List.{All};
 ghost use Rattle.croner_base.specs.Table.{is_table_second};
 ghost use Rattle.croner_base.specs.TableZone.{table_zone, table_moment};
@@ -9,7 +9,7 @@ ghost use Rattle.croner_base.specs.declared.time.table.TableTime.{TableTime};
 ghost use Rattle.croner.specs.declared.job.Cron.{Cron};
 ghost use Rattle.croner.specs.iterator.Listing.{standing_of, new_standing};
 ghost use Rattle.croner.specs.Views.{job_of};
-ghost use Rattle.cronplan_jobs.specs.Listed.{ListsJob};
+ghost use Rattle.cronplan_jobs.specs.Listed.{IsNotListed, ListsJob};
 ghost use Rattle.cronplan_jobs.specs.Private.Placed.{placed, placed_run, IsCronEnd, IsPatternEnd};
 
 use croner::errors::CronError;
@@ -35,8 +35,8 @@ const MOST_LISTED: u32 = MOST_STARTS as u32 + 1;
 /// The starts of a job in a span, in order, and the second up to which none is left out. That is the end of the span, or the second of
 /// the last start where there are more than a plan keeps.
 ///
-/// It takes memory for `MOST_STARTS` + 1 starts. The only error is `OutOfMemory`, except where the search of a pattern is refused,
-/// which doesn't happen in the searched years.
+/// It takes memory for `MOST_STARTS` + 1 starts. The only error is `OutOfMemory`, except where the clock refuses a second or a date of
+/// the search of a pattern, which doesn't happen in the searched years: `InvalidTime` or `InvalidDate`.
 pub(crate) fn starts_in(
     alloc: Global,
     schedule: &Schedule,
@@ -44,7 +44,8 @@ pub(crate) fn starts_in(
     span: Span,
     place: usize,
 ) -> Result<(Vec<JobStart>, i64), CronError>
-    ensures { IfOk result (λ r. ListsJob schedule.now (table_zone table.now) span place r.0.items r.1) }
+    ensures lists { IfOk result (λ r. ListsJob schedule.now (table_zone table.now) span place r.0.items r.1) }
+    ensures err { IfErr result IsNotListed }
 {
     let after = second_before(table, span);
     match schedule {
@@ -73,7 +74,8 @@ fn cron_starts(
     place: usize,
 ) -> Result<(Vec<JobStart>, i64), CronError>
     requires { after.second ≡ span.first -ℤ pos 1 }
-    ensures { IfOk result (λ r. ListsJob (Schedule.Crontab job.now) (table_zone after.entry.table.now) span place r.0.items r.1) }
+    ensures lists { IfOk result (λ r. ListsJob (Schedule.Crontab job.now) (table_zone after.entry.table.now) span place r.0.items r.1) }
+    ensures err { IfErr result IsNotListed }
 {
     let (starts, ending) = next_starts_until(alloc, job, after, span.until(), MOST_LISTED)?;
     let end = cron_end(starts.as_slice(), ending, span);
@@ -133,7 +135,8 @@ fn pattern_starts(
     place: usize,
 ) -> Result<(Vec<JobStart>, i64), CronError>
     requires { after.second ≡ span.first -ℤ pos 1 }
-    ensures { IfOk result (λ r. ListsJob (Schedule.Pattern cron.now) (table_zone after.entry.table.now) span place r.0.items r.1) }
+    ensures lists { IfOk result (λ r. ListsJob (Schedule.Pattern cron.now) (table_zone after.entry.table.now) span place r.0.items r.1) }
+    ensures err { IfErr result IsNotListed }
 {
     let mut runs = cron.iter_after(after)?;
     runs_from(alloc, &mut runs, span, place)
@@ -146,9 +149,10 @@ fn runs_from(
     span: Span,
     place: usize,
 ) -> Result<(Vec<JobStart>, i64), CronError>
-    ensures { (cron : Cron) (after : TableTime) → after.second ≡ span.first -ℤ pos 1
+    ensures lists { (cron : Cron) (after : TableTime) → after.second ≡ span.first -ℤ pos 1
         → standing_of table_moment runs.old ≡ new_standing (job_of cron) (table_moment after) false Direction.Forward
         → IfOk result (λ r. ListsJob (Schedule.Pattern cron) (table_zone after.table.now) span place r.0.items r.1) }
+    ensures err { IfErr result IsNotListed }
 {
     let (times, ending) = next_runs_until(alloc, runs, span.until(), MOST_LISTED)?;
     if let ListingEnd::Refused = ending {
@@ -159,14 +163,22 @@ fn runs_from(
     Ok((starts, end))
 }
 
-// The error that ended a search, which may be lack of memory.
-fn fault_of(fault: Option<&CronError>) -> CronError {
+// What ended a search: a second or a date that the clock refuses, or want of memory. No search has another fault.
+fn fault_of(fault: Option<&CronError>) -> CronError
+    ensures { IsNotListed result }
+{
     match fault {
-        Some(fault) => match fault.clone() {
-            Ok(fault) => fault,
-            Err(_) => CronError::OutOfMemory,
-        },
-        None => CronError::OutOfMemory,
+        Some(CronError::InvalidDate) => CronError::InvalidDate,
+        Some(CronError::InvalidTime) => CronError::InvalidTime,
+        Some(
+            CronError::EmptyPattern
+            | CronError::TimeSearchLimitExceeded
+            | CronError::InvalidPattern(_)
+            | CronError::IllegalCharacters(_)
+            | CronError::ComponentError(_)
+            | CronError::OutOfMemory,
+        )
+        | None => CronError::OutOfMemory,
     }
 }
 

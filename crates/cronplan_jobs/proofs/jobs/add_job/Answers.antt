@@ -8,24 +8,24 @@ use Rattle.cronplan_jobs.specs.Private.Gathered.{Names, Shows}
 use Rattle.cronplan_jobs.proofs.GatheredJobs.{adds_named, adds_shown}
 use Rattle.cronplan_jobs.proofs.jobs.add_job.Goals as goal
 
-pub returns-then-branch : goal.returns-then-branch
-returns-then-branch c =
+pub returns-then-branch-clause-adds : goal.returns-then-branch-clause-adds
+returns-then-branch-clause-adds c =
     let seen : Seen = record { place = c.args.place; starts = c.in_ok-starts.starts.items; end = c.in_ok-starts.end; is_frequent = c.in_ok-is_over.field-0 } in
     let is : IsSeen (table_zone c.args.table.now) c.args.span c.args.most_a_day c.args.place c.args.schedule.now seen = record {
       place_is = refl;
-      lists = c.in_ok-starts.ensures;
+      lists = c.in_ok-starts.ensures.lists;
       mark = subst (λ (xs : List JobStart). IsTrue c.in_ok-is_over.field-0 ↔ IsOver c.args.most_a_day xs) c.as_slice.ensures.value c.in_ok-is_over.ensures;
     } in
     adds_named (table_zone c.args.table.now) c.args.span c.args.most_a_day c.args.place c.args.schedule.now seen c.args.gathering.now c.name_job.new.gathering is c.if-branch.true
     (subst (λ (xs : List JobStart). Names c.args.place xs c.args.gathering.now c.name_job.new.gathering) c.as_slice-then-branch.ensures.value c.in_ok-name_job.ensures)
 
-pub returns : goal.returns
-returns c =
+pub returns-clause-adds : goal.returns-clause-adds
+returns-clause-adds c =
     let fits : FitsSigned w64 c.in_ok-starts.end = search rules in
     let seen : Seen = record { place = c.args.place; starts = c.in_ok-starts.starts.items; end = c.in_ok-starts.end; is_frequent = c.in_ok-is_over.field-0 } in
     let is : IsSeen (table_zone c.args.table.now) c.args.span c.args.most_a_day c.args.place c.args.schedule.now seen = record {
       place_is = refl;
-      lists = c.in_ok-starts.ensures;
+      lists = c.in_ok-starts.ensures.lists;
       mark = subst (λ (xs : List JobStart). IsTrue c.in_ok-is_over.field-0 ↔ IsOver c.args.most_a_day xs) c.as_slice.ensures.value c.in_ok-is_over.ensures;
     } in
     let shows = subst (λ (xs : List JobStart). Shows xs (to_z w64 (of_z w64 c.in_ok-starts.end)) c.args.gathering.now c.show_starts.new.gathering) c.as_slice-2.ensures.value c.in_ok-show_starts.ensures in

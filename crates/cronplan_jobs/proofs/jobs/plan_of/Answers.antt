@@ -26,15 +26,15 @@ loop-place-preserved c =
     take_more c.args.jobs.now i j inside ∙ ap (λ (x : Schedule). take i c.args.jobs.now ++ x ∷ []) (sym c.index-jobs-place.is) in
     subst (λ (js : List Schedule). Gathered (table_zone c.args.table.now) c.args.span c.args.most_a_day js c.add_job.new.gathering) (sym more)
     (gathered_more (table_zone c.args.table.now) c.args.span c.args.most_a_day i (take i c.args.jobs.now) j c.loop-place.gathering c.add_job.new.gathering
-    (sym (length-take-le i c.args.jobs.now (omega arith))) c.loop-place.invariant c.in_ok-add_job.ensures)
+    (sym (length-take-le i c.args.jobs.now (omega arith))) c.loop-place.invariant c.in_ok-add_job.ensures.adds)
 
 pub of_starts-requires : goal.of_starts-requires
 of_starts-requires c =
     let fits : FitsSigned w64 c.args.span.first = search rules in
     subst (λ (i : ℤ). All (λ (s : JobStart). i ≤ℤ s.second) c.loop-place.gathering.shown.items) (sym (to_z-of_z w64 c.args.span.first fits)) c.loop-place.invariant.first
 
-pub returns : goal.returns
-returns c =
+pub returns-clause-plan : goal.returns-clause-plan
+returns-clause-plan c =
     let z = table_zone c.args.table.now in
     let held = c.loop-place.invariant in
     let whole : take c.loop-place.place c.args.jobs.now ≡ c.args.jobs.now = take_all c.loop-place.place c.args.jobs.now (omega arith) in

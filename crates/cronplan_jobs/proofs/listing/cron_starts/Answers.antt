@@ -23,8 +23,8 @@ placed_starts-requires c =
     (starts_held c.args.job.now (table_moment c.args.after) c.args.span c.args.place c.requires c.in_ok-starts.starts.items c.in_ok-starts.ending 100_001
     (span_at c.args.span.first c.args.span.end c.args.span.held) listed)
 
-pub returns : goal.returns
-returns c =
+pub returns-clause-lists : goal.returns-clause-lists
+returns-clause-lists c =
     let fits : FitsSigned w64 c.cron_end-end.result = search rules in
     let zone : Zone = table_zone c.args.after.table.now in
     let listed : ListsStarts (cron_job_of c.args.job.now) (table_moment c.args.after) (Some (c.args.span.end -ℤ pos 1)) 100_001 c.in_ok-starts.starts.items c.in_ok-starts.ending =

@@ -16,8 +16,8 @@ use Rattle.cronplan_jobs.proofs.JobListings.{pattern_lists}
 use Rattle.cronplan.proofs.SpanSeconds.{span_at}
 use Rattle.cronplan_jobs.proofs.listing.runs_from.Goals as goal
 
-pub returns : goal.returns
-returns c = λ (cron : Cron) (after : TableTime) second stands.
+pub returns-clause-lists : goal.returns-clause-lists
+returns-clause-lists c = λ (cron : Cron) (after : TableTime) second stands.
     let fits : FitsSigned w64 c.pattern_end-end.result = search rules in
     let zone : Zone = table_zone after.table.now in
     let begin : Standing = new_standing (job_of cron) (table_moment after) false Forward in
