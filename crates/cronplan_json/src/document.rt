@@ -1,14 +1,16 @@
 //! The whole object.
-ghost use Rattle.std.specs.Prelude.{◌≡◌, IfOk, string_bytes};
+ghost use Rattle.std.specs.Prelude.{◌≡◌, IfOk, option_map, string_bytes};
+ghost use Rattle.serde_json.specs.Data.{object};
 ghost use Rattle.serde_json.specs.View.{view as data_of};
-ghost use Rattle.cronplan_json.specs.PlanJson.{object_with, IsPlanData, IsPlanJson};
+ghost use Rattle.cronplan_json.specs.PlanJson.{object_with, other_zone, plan_members, IsPlanData, IsPlanJson};
 
 use crate::days::{days_value, hours_value};
 use crate::instants::instant_object;
 use crate::jobs::jobs_value;
+use crate::members::with_optional;
 use crate::moments::moments_value;
 use crate::quiet::quiet_value;
-use cronplan_forms::{ClockTime, View};
+use cronplan_forms::{OtherClock, ShownTime, View};
 use serde_json::{Value, json};
 use std::alloc::{AllocError, Global};
 
@@ -18,8 +20,8 @@ pub const VERSION: u32 = 1;
 /// A plan as one object of JSON, without blanks or a line feed: its span, its jobs but for their commands, its moments with the jobs that start
 /// then, the windows of at least an hour in which nothing starts, its dates hour by hour, and its starts by the hour of the day.
 ///
-/// A moment names its jobs by their places among the jobs. Of a job that starts too often to be shown only the count of its starts is told. The
-/// only error is want of memory.
+/// A moment names its jobs by their places among the jobs. Of a job that starts too often to be shown only the count of its starts is told. Where
+/// the clock of a second zone is shown, each second has what that shows then, or null where it isn't followed. The only error is want of memory.
 pub fn plan_json(alloc: Global, view: View<'_>) -> Result<String, AllocError>
     ensures { IfOk result (λ t. IsPlanJson view.entry (string_bytes t)) }
 {
@@ -34,16 +36,16 @@ fn plan_object(alloc: Global, view: View<'_>) -> Result<Value, AllocError>
     let (plan, table) = (view.plan, view.table);
     let days = days_value(alloc, plan, table)?;
     let hours = hours_value(alloc, plan)?;
-    let moments = moments_value(alloc, plan, table)?;
-    let quiet = quiet_value(alloc, plan, table)?;
+    let moments = moments_value(alloc, view)?;
+    let quiet = quiet_value(alloc, view)?;
     let lists = Lists {
         days,
         hours,
         moments,
         quiet,
     };
-    let first = ClockTime::shown_at(table, plan.span.first);
-    let end = ClockTime::shown_at(table, plan.span.end);
+    let first = ShownTime::at(view, plan.span.first);
+    let end = ShownTime::at(view, plan.span.end);
     let object = object_of(alloc, view, &first, &end, lists)?;
     Ok(object)
 }
@@ -61,11 +63,26 @@ struct Lists {
 fn object_of(
     alloc: Global,
     view: View<'_>,
-    first: &ClockTime,
-    end: &ClockTime,
+    first: &ShownTime,
+    end: &ShownTime,
     lists: Lists,
 ) -> Result<Value, AllocError>
     ensures { IfOk result (λ v. data_of v ≡ object_with view.entry first.now end.now (data_of lists.days) (data_of lists.hours) (data_of lists.moments) (data_of lists.quiet)) }
+{
+    let object = own_object(alloc, view, first, end, lists)?;
+    let zone = zone_value(alloc, view.other)?;
+    with_optional(alloc, object, "shown_zone", zone)
+}
+
+// The same without the second zone.
+fn own_object(
+    alloc: Global,
+    view: View<'_>,
+    first: &ShownTime,
+    end: &ShownTime,
+    lists: Lists,
+) -> Result<Value, AllocError>
+    ensures { IfOk result (λ v. data_of v ≡ object (plan_members view.entry first.now end.now (data_of lists.days) (data_of lists.hours) (data_of lists.moments) (data_of lists.quiet))) }
 {
     let (zone, is_cut) = (view.zone, view.is_cut);
     json!(in alloc; {
@@ -81,4 +98,17 @@ fn object_of(
         "version": VERSION,
         "zone": zone
     })
+}
+
+// What the second zone is called, if one is shown.
+fn zone_value(alloc: Global, other: Option<OtherClock<'_>>) -> Result<Option<Value>, AllocError>
+    ensures { IfOk result (λ v. option_map data_of v ≡ other_zone other.entry) }
+{
+    match other {
+        Some(other) => {
+            let name = Value::try_from_str(alloc, other.zone)?;
+            Ok(Some(name))
+        }
+        None => Ok(None),
+    }
 }

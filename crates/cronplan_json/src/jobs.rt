@@ -1,14 +1,16 @@
 //! The jobs of a plan, each with how many starts it has.
-ghost use Rattle.std.specs.Prelude.{◌≡◌, ◌+◌, ◌≤◌, ◌^◌, ℕ, IfOk, OnOk, is_some, length, map, unwrap_or};
+ghost use Rattle.std.specs.Prelude.{◌≡◌, ◌+◌, ◌≤◌, ◌^◌, ℕ, IfOk, OnOk, is_some, length, map, option_map, unwrap_or};
 ghost use Rattle.std.specs.BTreeMap.{get};
 ghost use Rattle.std.specs.Ordering.{nat_cmp};
 ghost use Rattle.serde_json.specs.Data.{array, object};
-ghost use Rattle.serde_json.specs.View.{view as data_of, items_of, members_view};
-ghost use Rattle.cronplan_json.specs.Objects.{added_of, starts_of, frequent_count, job_starts, with_user, job_members, job_object, job_objects};
+ghost use Rattle.serde_json.specs.View.{view as data_of, items_of};
+ghost use Rattle.cronplan_forms.specs.Frequents.{frequent_count};
+ghost use Rattle.cronplan_json.specs.Objects.{added_of, starts_of, job_starts, user_data, job_members, job_object, job_objects};
 
-use cronplan::{Frequent, JobStart};
-use cronplan_forms::{Job, View};
-use serde_json::{Map, Value, json, put};
+use crate::members::with_optional;
+use cronplan::JobStart;
+use cronplan_forms::{Job, View, frequent_count};
+use serde_json::{Value, json};
 use std::alloc::{AllocError, Global};
 use std::collections::BTreeMap;
 
@@ -89,29 +91,12 @@ fn count_at(view: View<'_>, counts: &BTreeMap<usize, u64>, place: usize) -> JobC
     }
 }
 
-// How many starts the job at a place has, if it is one of these.
-#[tactic(auto, using(crate::proofs::PlacedJobs::frequent_count_step))]
-fn frequent_count(frequent: &[Frequent], place: usize) -> Option<u64>
-    ensures { result ≡ frequent_count frequent.now place }
-{
-    for job in frequent {
-        if job.job == place {
-            return Some(job.starts);
-        }
-    }
-    None
-}
-
 fn job_object(alloc: Global, job: Job<'_>, count: JobCount) -> Result<Value, AllocError>
     ensures { IfOk result (λ v. data_of v ≡ job_object job.entry count.starts count.is_frequent) }
 {
-    match plain_object(alloc, job, count)? {
-        Value::Object(mut members) => {
-            put_user(alloc, &mut members, job.user)?;
-            Ok(Value::Object(members))
-        }
-        other => Ok(other),
-    }
+    let user = user_value(alloc, job.user)?;
+    let object = plain_object(alloc, job, count)?;
+    with_optional(alloc, object, "user", user)
 }
 
 // The object without the user.
@@ -132,13 +117,13 @@ fn plain_object(alloc: Global, job: Job<'_>, count: JobCount) -> Result<Value, A
     })
 }
 
-// Puts the name of a user at its place, where there is one.
-fn put_user(alloc: Global, members: &mut Map<String, Value>, user: &str) -> Result<(), AllocError>
-    ensures { OnOk result (members_view members.new.entries ≡ with_user user.now (members_view members.old.entries)) }
+// The name of a user, where there is one.
+fn user_value(alloc: Global, user: &str) -> Result<Option<Value>, AllocError>
+    ensures { IfOk result (λ v. option_map data_of v ≡ user_data user.now) }
 {
     if user.is_empty() {
-        return Ok(());
+        return Ok(None);
     }
     let name = Value::try_from_str(alloc, user)?;
-    put(members, alloc, "user", name)
+    Ok(Some(name))
 }

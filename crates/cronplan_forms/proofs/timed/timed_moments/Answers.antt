@@ -1,7 +1,7 @@
 use Rattle.std.proofs.Common.{◌<◌, length, take, rules, pos}
 use Rattle.std.proofs.lemmas.List.{take_more}
 use Rattle.cronplan.specs.declared.moments.Moment.{Moment}
-use Rattle.cronplan_page.proofs.timed.timed_moments.Goals as goal
+use Rattle.cronplan_forms.proofs.timed.timed_moments.Goals as goal
 
 -- what stands where there is none
 abbrev none : Moment

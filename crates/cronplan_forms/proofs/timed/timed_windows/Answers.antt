@@ -2,7 +2,7 @@ use Rattle.std.proofs.Common.{◌<◌, length, take, rules, pos}
 use Rattle.std.proofs.lemmas.List.{take_more}
 use Rattle.cronplan.specs.declared.windows.Bound.TheVariants as bounds
 use Rattle.cronplan.specs.declared.windows.Window.{Window}
-use Rattle.cronplan_page.proofs.timed.timed_windows.Goals as goal
+use Rattle.cronplan_forms.proofs.timed.timed_windows.Goals as goal
 
 -- what stands where there is none
 abbrev none : Window

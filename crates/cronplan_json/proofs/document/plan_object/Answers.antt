@@ -13,12 +13,12 @@ returns c =
     let hours = c.in_ok-hours.ensures in
     let moments = c.in_ok-moments.ensures in
     let quiet = c.in_ok-quiet.ensures in
-    let told : Told = record { first = c.shown_at-first.result; end = c.shown_at-end.result; moments = moments.0; quiet = quiet.0; days = days.0; hours = hours.0 } in
+    let told : Told = record { first = c.at-first.result; end = c.at-end.result; moments = moments.0; quiet = quiet.0; days = days.0; hours = hours.0 } in
     record {
       told = told;
       is_told = record {
-        first_is = rw (to_z-of_z w64 span.first (first_fits span.first span.end span.held)) at c.shown_at-first.ensures;
-        end_is = rw (to_z-of_z w64 span.end (end_fits span.first span.end span.held)) at c.shown_at-end.ensures;
+        first_is = rw (to_z-of_z w64 span.first (first_fits span.first span.end span.held)) at c.at-first.ensures;
+        end_is = rw (to_z-of_z w64 span.end (end_fits span.first span.end span.held)) at c.at-end.ensures;
         moments_are = moments.1;
         quiet_are = quiet.1;
         days_are = days.1;
