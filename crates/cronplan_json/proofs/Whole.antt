@@ -16,13 +16,13 @@ use Rattle.cronplan_forms.specs.declared.timed.TimedWindow.{TimedWindow}
 use Rattle.cronplan_forms.specs.declared.view.View.{View}
 use Rattle.cronplan_forms.specs.declared.week.WeekDay.{WeekDay}
 use Rattle.cronplan.specs.Moments.{at_second}
-use Rattle.serde_json.specs.Data.{Data, null, array, object}
+use Rattle.serde_json.specs.Data.{Data, Members, null, array, object, put}
 use Rattle.serde_json.specs.Find.{is_float, of_integer}
 use Rattle.serde_json.specs.View.{items_of}
 use Rattle.serde_json.specs.Written.{has_float, items_have_float, members_have_float, compact_text}
 use Rattle.cronplan_forms.specs.Frequents.{frequent_count}
 use Rattle.cronplan_json.specs.Objects.{count, counts, clock_members, instant_object, job_starts, job_members, user_data, with_optional, with_shown, job_object, job_objects, moment_object, moment_members, window_object, date_data, hour_data, day_object}
-use Rattle.cronplan_json.specs.PlanJson.{Told, object_with, other_zone, plan_members, plan_object, IsPlanData, IsPlanJson}
+use Rattle.cronplan_json.specs.PlanJson.{Told, other_zone, plan_members, plan_object, view_members, IsPlanData, IsPlanJson}
 
 integer_whole : (z : ℤ) → is_float (of_integer z) ≡ false
 integer_whole (pos n) = refl
@@ -134,13 +134,20 @@ plan_whole v told = at v.other where
         instant_whole told.end,
       ) refl
 
--- an object with such lists is that of what they tell
-pub with_lists : (v : View) (told : Told) (d days hours moments quiet : Data) → d ≡ object_with v told.first told.end days hours moments quiet
+-- the members of a view, with such lists put at their places and with the second zone, are those of what is told
+pub with_lists : (v : View) (told : Told) (own dated hourly momentary quieted all : Members) (days hours moments quiet : Data) → own ≡ view_members v told.first told.end
+    → dated ≡ put (codes "days") days own → hourly ≡ put (codes "hours") hours dated → momentary ≡ put (codes "moments") moments hourly
+    → quieted ≡ put (codes "quiet") quiet momentary → all ≡ with_optional (codes "shown_zone") (other_zone v.other) quieted
     → days ≡ array (items_of (map day_object told.days)) → hours ≡ counts told.hours
     → moments ≡ array (items_of (map (moment_object v.plan.now.starts.items) told.moments)) → quiet ≡ array (items_of (map window_object told.quiet))
-    → d ≡ plan_object v told
-with_lists v told d days hours moments quiet is days_are hours_are moments_are quiet_are =
-    is ∙ rw (days_are, hours_are, moments_are, quiet_are) refl
+    → object all ≡ plan_object v told
+with_lists v told own dated hourly momentary quieted all days hours moments quiet own_is dated_is hourly_is momentary_is quieted_is all_is days_are hours_are moments_are quiet_are =
+    ap (λ (m : Members). object m)
+    (all_is ∙ ap (λ (m : Members). with_optional (codes "shown_zone") (other_zone v.other) m)
+    (quieted_is ∙ ap (λ (m : Members). put (codes "quiet") quiet m)
+    (momentary_is ∙ ap (λ (m : Members). put (codes "moments") moments m)
+    (hourly_is ∙ ap (λ (m : Members). put (codes "hours") hours m) (dated_is ∙ ap (λ (m : Members). put (codes "days") days m) own_is)))))
+    ∙ rw (days_are, hours_are, moments_are, quiet_are) refl
 
 -- so its text is that of the object
 pub text_of_plan : (v : View) (d : Data) (text : List ℕ) → IsPlanData v d → (has_float d ≡ false → text ≡ compact_text d) → IsPlanJson v text

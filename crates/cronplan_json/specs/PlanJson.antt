@@ -2,7 +2,7 @@
 use Rattle.std.specs.Prelude.{◌≡◌, ℕ, List, codes, map, Option, Some, None}
 use Rattle.std.specs.List.{All}
 use Rattle.std.specs.List.Sorted.{IsSorted}
-use Rattle.serde_json.specs.Data.{Data, Members, boolean, string, array, object, member, no_members}
+use Rattle.serde_json.specs.Data.{Data, Members, boolean, string, array, object, member, no_members, put}
 use Rattle.serde_json.specs.View.{items_of}
 use Rattle.serde_json.specs.Written.{compact_text}
 use Rattle.croner_base.specs.declared.time.table.ClockTable.{ClockTable}
@@ -77,22 +77,23 @@ abbrev pub other_zone : Option OtherClock → Option Data
 other_zone None = None
 other_zone (Some other) = Some (string other.zone.now)
 
--- the members of the object of a view whose span begins and ends at these seconds, with these lists of its dates, its starts by the hour of the
--- day, its moments and its windows
-abbrev pub plan_members : View → ShownTime → ShownTime → Data → Data → Data → Data → Members
-plan_members v first end days hours moments quiet =
+-- the members of the object of a view but for its lists, whose span begins and ends at these seconds
+abbrev pub view_members : View → ShownTime → ShownTime → Members
+view_members v first end =
     member (codes "cut") (boolean v.is_cut)
-    (member (codes "days") days
     (member (codes "from") (instant_object first)
-    (member (codes "hours") hours
     (member (codes "jobs") (array (items_of (job_objects v.frequent.now v.plan.now.starts.items 0 v.jobs.now)))
     (member (codes "kind") (string (codes "plan"))
-    (member (codes "moments") moments
-    (member (codes "quiet") quiet
     (member (codes "to") (instant_object end)
     (member (codes "version") (count 1)
-    (member (codes "zone") (string v.zone.now) no_members))))))))))
+    (member (codes "zone") (string v.zone.now) no_members))))))
 
+-- with these lists at their places: of its dates, its starts by the hour of the day, its moments and its windows
+abbrev pub plan_members : View → ShownTime → ShownTime → Data → Data → Data → Data → Members
+plan_members v first end days hours moments quiet =
+    put (codes "quiet") quiet (put (codes "moments") moments (put (codes "hours") hours (put (codes "days") days (view_members v first end))))
+
+-- and with the second zone
 abbrev pub object_with : View → ShownTime → ShownTime → Data → Data → Data → Data → Data
 object_with v first end days hours moments quiet =
     object (with_optional (codes "shown_zone") (other_zone v.other) (plan_members v first end days hours moments quiet))

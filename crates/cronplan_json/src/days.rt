@@ -6,12 +6,13 @@ ghost use Rattle.cronplan_forms.specs.Answers.{AreHourCounts};
 ghost use Rattle.cronplan_json.specs.Objects.{counts, date_data, hour_data, day_object};
 ghost use Rattle.cronplan_json.specs.PlanJson.{AreShownDays};
 
+use crate::members::put_count;
 use crate::numbers::numbers_value;
 use croner_base::time::CivilDateTime;
 use croner_base::time::table::ClockTable;
 use cronplan::{HourCell, Plan};
 use cronplan_forms::{WeekDay, hour_counts, named_days};
-use serde_json::{Value, json};
+use serde_json::{Map, Value, put};
 use std::alloc::{AllocError, Global};
 
 /// An object for each date of a plan. The only error is want of memory.
@@ -41,12 +42,13 @@ fn day_items(alloc: Global, days: &[WeekDay<'_>]) -> Result<Vec<Value>, AllocErr
 fn day_object(alloc: Global, day: WeekDay<'_>) -> Result<Value, AllocError>
     ensures { IfOk result (λ v. view v ≡ day_object day.entry) }
 {
-    let starts = day.day.starts;
-    json!(in alloc; {
-        "date": date_value(alloc, day.name.civil)?,
-        "hours": cells_value(alloc, day.day.hours.as_slice())?,
-        "starts": starts
-    })
+    let mut members = Map::new(alloc);
+    let date = date_value(alloc, day.name.civil)?;
+    put(&mut members, alloc, "date", date)?;
+    let hours = cells_value(alloc, day.day.hours.as_slice())?;
+    put(&mut members, alloc, "hours", hours)?;
+    put_count(alloc, &mut members, "starts", day.day.starts)?;
+    Ok(Value::Object(members))
 }
 
 // The text of a date; null of one that no calendar has.

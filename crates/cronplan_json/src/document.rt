@@ -1,17 +1,17 @@
 //! The whole object.
-ghost use Rattle.std.specs.Prelude.{◌≡◌, IfOk, option_map, string_bytes};
-ghost use Rattle.serde_json.specs.Data.{object};
-ghost use Rattle.serde_json.specs.View.{view as data_of};
-ghost use Rattle.cronplan_json.specs.PlanJson.{object_with, other_zone, plan_members, IsPlanData, IsPlanJson};
+ghost use Rattle.std.specs.Prelude.{◌≡◌, IfOk, OnOk, codes, string_bytes};
+ghost use Rattle.serde_json.specs.View.{members_view, view as data_of};
+ghost use Rattle.cronplan_json.specs.Objects.{with_optional};
+ghost use Rattle.cronplan_json.specs.PlanJson.{other_zone, view_members, IsPlanData, IsPlanJson};
 
 use crate::days::{days_value, hours_value};
-use crate::instants::instant_object;
+use crate::instants::put_instant;
 use crate::jobs::jobs_value;
-use crate::members::with_optional;
+use crate::members::{put_count, put_flag, put_text};
 use crate::moments::moments_value;
 use crate::quiet::quiet_value;
 use cronplan_forms::{OtherClock, ShownTime, View};
-use serde_json::{Value, json};
+use serde_json::{Map, Value, put};
 use std::alloc::{AllocError, Global};
 
 /// The version of the form of this object.
@@ -34,81 +34,52 @@ fn plan_object(alloc: Global, view: View<'_>) -> Result<Value, AllocError>
     ensures { IfOk result (λ v. IsPlanData view.entry (data_of v)) }
 {
     let (plan, table) = (view.plan, view.table);
-    let days = days_value(alloc, plan, table)?;
-    let hours = hours_value(alloc, plan)?;
-    let moments = moments_value(alloc, view)?;
-    let quiet = quiet_value(alloc, view)?;
-    let lists = Lists {
-        days,
-        hours,
-        moments,
-        quiet,
-    };
     let first = ShownTime::at(view, plan.span.first);
     let end = ShownTime::at(view, plan.span.end);
-    let object = object_of(alloc, view, &first, &end, lists)?;
-    Ok(object)
+    let mut members = own_members(alloc, view, &first, &end)?;
+    let days = days_value(alloc, plan, table)?;
+    put(&mut members, alloc, "days", days)?;
+    let hours = hours_value(alloc, plan)?;
+    put(&mut members, alloc, "hours", hours)?;
+    let moments = moments_value(alloc, view)?;
+    put(&mut members, alloc, "moments", moments)?;
+    let quiet = quiet_value(alloc, view)?;
+    put(&mut members, alloc, "quiet", quiet)?;
+    put_zone(alloc, &mut members, view.other)?;
+    Ok(Value::Object(members))
 }
 
-// What is told of a plan beside its jobs.
-#[derive(Drop)]
-struct Lists {
-    days: Value,
-    hours: Value,
-    moments: Value,
-    quiet: Value,
-}
-
-// The object of a view whose span begins and ends at these seconds, with these lists.
-fn object_of(
+// The members of a view but for its lists, whose span begins and ends at these seconds.
+fn own_members(
     alloc: Global,
     view: View<'_>,
     first: &ShownTime,
     end: &ShownTime,
-    lists: Lists,
-) -> Result<Value, AllocError>
-    ensures { IfOk result (λ v. data_of v ≡ object_with view.entry first.now end.now (data_of lists.days) (data_of lists.hours) (data_of lists.moments) (data_of lists.quiet)) }
+) -> Result<Map<String, Value>, AllocError>
+    ensures { IfOk result (λ members. members_view members.entries ≡ view_members view.entry first.now end.now) }
 {
-    let object = own_object(alloc, view, first, end, lists)?;
-    let zone = zone_value(alloc, view.other)?;
-    with_optional(alloc, object, "shown_zone", zone)
+    let mut members = Map::new(alloc);
+    put_flag(alloc, &mut members, "cut", view.is_cut)?;
+    put_instant(alloc, &mut members, "from", first)?;
+    let jobs = jobs_value(alloc, view)?;
+    put(&mut members, alloc, "jobs", jobs)?;
+    put_text(alloc, &mut members, "kind", "plan")?;
+    put_instant(alloc, &mut members, "to", end)?;
+    put_count(alloc, &mut members, "version", u64::from(VERSION))?;
+    put_text(alloc, &mut members, "zone", view.zone)?;
+    Ok(members)
 }
 
-// The same without the second zone.
-fn own_object(
+// Puts what the second zone is called among members, if one is shown.
+fn put_zone(
     alloc: Global,
-    view: View<'_>,
-    first: &ShownTime,
-    end: &ShownTime,
-    lists: Lists,
-) -> Result<Value, AllocError>
-    ensures { IfOk result (λ v. data_of v ≡ object (plan_members view.entry first.now end.now (data_of lists.days) (data_of lists.hours) (data_of lists.moments) (data_of lists.quiet))) }
-{
-    let (zone, is_cut) = (view.zone, view.is_cut);
-    json!(in alloc; {
-        "cut": is_cut,
-        "days": lists.days,
-        "from": instant_object(alloc, first)?,
-        "hours": lists.hours,
-        "jobs": jobs_value(alloc, view)?,
-        "kind": "plan",
-        "moments": lists.moments,
-        "quiet": lists.quiet,
-        "to": instant_object(alloc, end)?,
-        "version": VERSION,
-        "zone": zone
-    })
-}
-
-// What the second zone is called, if one is shown.
-fn zone_value(alloc: Global, other: Option<OtherClock<'_>>) -> Result<Option<Value>, AllocError>
-    ensures { IfOk result (λ v. option_map data_of v ≡ other_zone other.entry) }
+    members: &mut Map<String, Value>,
+    other: Option<OtherClock<'_>>,
+) -> Result<(), AllocError>
+    ensures { OnOk result (members_view members.new.entries ≡ with_optional (codes "shown_zone") (other_zone other.entry) (members_view members.old.entries)) }
 {
     match other {
-        Some(other) => {
-            let name = Value::try_from_str(alloc, other.zone)?;
-            Ok(Some(name))
-        }
-        None => Ok(None),
+        Some(other) => put_text(alloc, members, "shown_zone", other.zone),
+        None => Ok(()),
     }
 }

@@ -1,16 +1,16 @@
 //! The jobs of a plan, each with how many starts it has.
-ghost use Rattle.std.specs.Prelude.{◌≡◌, ◌+◌, ◌≤◌, ◌^◌, ℕ, IfOk, OnOk, is_some, length, map, option_map, unwrap_or};
+ghost use Rattle.std.specs.Prelude.{◌≡◌, ◌+◌, ◌≤◌, ◌^◌, ℕ, IfOk, OnOk, is_some, codes, length, map, unwrap_or};
 ghost use Rattle.std.specs.BTreeMap.{get};
 ghost use Rattle.std.specs.Ordering.{nat_cmp};
-ghost use Rattle.serde_json.specs.Data.{array, object};
-ghost use Rattle.serde_json.specs.View.{view as data_of, items_of};
+ghost use Rattle.serde_json.specs.Data.{array};
+ghost use Rattle.serde_json.specs.View.{view as data_of, items_of, members_view};
 ghost use Rattle.cronplan_forms.specs.Frequents.{frequent_count};
-ghost use Rattle.cronplan_json.specs.Objects.{added_of, starts_of, job_starts, user_data, job_members, job_object, job_objects};
+ghost use Rattle.cronplan_json.specs.Objects.{added_of, starts_of, job_starts, user_data, job_members, job_object, job_objects, with_optional};
 
-use crate::members::with_optional;
+use crate::members::{put_count, put_flag, put_text};
 use cronplan::JobStart;
 use cronplan_forms::{Job, View, frequent_count};
-use serde_json::{Value, json};
+use serde_json::{Map, Value};
 use std::alloc::{AllocError, Global};
 use std::collections::BTreeMap;
 
@@ -94,36 +94,36 @@ fn count_at(view: View<'_>, counts: &BTreeMap<usize, u64>, place: usize) -> JobC
 fn job_object(alloc: Global, job: Job<'_>, count: JobCount) -> Result<Value, AllocError>
     ensures { IfOk result (λ v. data_of v ≡ job_object job.entry count.starts count.is_frequent) }
 {
-    let user = user_value(alloc, job.user)?;
-    let object = plain_object(alloc, job, count)?;
-    with_optional(alloc, object, "user", user)
+    let mut members = own_members(alloc, job, count)?;
+    put_user(alloc, &mut members, job.user)?;
+    Ok(Value::Object(members))
 }
 
-// The object without the user.
-fn plain_object(alloc: Global, job: Job<'_>, count: JobCount) -> Result<Value, AllocError>
-    ensures { IfOk result (λ v. data_of v ≡ object (job_members job.entry count.starts count.is_frequent)) }
+// The members of a job without the user.
+fn own_members(
+    alloc: Global,
+    job: Job<'_>,
+    count: JobCount,
+) -> Result<Map<String, Value>, AllocError>
+    ensures { IfOk result (λ members. members_view members.entries ≡ job_members job.entry count.starts count.is_frequent) }
 {
-    let (file, line, times) = (job.file, job.line, job.times);
-    let (title, words) = (job.title, job.words);
-    let (starts, is_frequent) = (count.starts, count.is_frequent);
-    json!(in alloc; {
-        "file": file,
-        "frequent": is_frequent,
-        "line": line,
-        "starts": starts,
-        "times": times,
-        "title": title,
-        "words": words
-    })
+    let mut members = Map::new(alloc);
+    put_text(alloc, &mut members, "file", job.file)?;
+    put_flag(alloc, &mut members, "frequent", count.is_frequent)?;
+    put_count(alloc, &mut members, "line", job.line)?;
+    put_count(alloc, &mut members, "starts", count.starts)?;
+    put_text(alloc, &mut members, "times", job.times)?;
+    put_text(alloc, &mut members, "title", job.title)?;
+    put_text(alloc, &mut members, "words", job.words)?;
+    Ok(members)
 }
 
-// The name of a user, where there is one.
-fn user_value(alloc: Global, user: &str) -> Result<Option<Value>, AllocError>
-    ensures { IfOk result (λ v. option_map data_of v ≡ user_data user.now) }
+// Puts the name of a user among members, where there is one.
+fn put_user(alloc: Global, members: &mut Map<String, Value>, user: &str) -> Result<(), AllocError>
+    ensures { OnOk result (members_view members.new.entries ≡ with_optional (codes "user") (user_data user.now) (members_view members.old.entries)) }
 {
     if user.is_empty() {
-        return Ok(None);
+        return Ok(());
     }
-    let name = Value::try_from_str(alloc, user)?;
-    Ok(Some(name))
+    put_text(alloc, members, "user", user)
 }

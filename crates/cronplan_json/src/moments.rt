@@ -2,17 +2,18 @@
 ghost use Rattle.std.specs.Prelude.{◌≡◌, ◌≤ℤ◌, IfOk, List, int_le, int_lt, map};
 ghost use Rattle.std.specs.List.{All};
 ghost use Rattle.std.specs.List.Sorted.{IsSorted};
-ghost use Rattle.serde_json.specs.Data.{array, object};
-ghost use Rattle.serde_json.specs.View.{view as data_of, items_of};
+ghost use Rattle.serde_json.specs.Data.{array};
+ghost use Rattle.serde_json.specs.View.{view as data_of, items_of, members_view};
 ghost use Rattle.cronplan.specs.Moments.{AreMoments, at_second};
 ghost use Rattle.cronplan.specs.Starts.{start_cmp};
 ghost use Rattle.cronplan_json.specs.Objects.{count, counts_of, places_of, moment_members, moment_object, starts_object};
 ghost use Rattle.cronplan_json.specs.PlanJson.{AreMomentsOf};
 
-use crate::instants::{time_value, with_shown};
+use crate::instants::{put_shown, put_time};
+use crate::members::{put_count, put_integer};
 use cronplan::{JobStart, Moment, Plan};
 use cronplan_forms::{TimedMoment, View, timed_moments};
-use serde_json::{Value, json};
+use serde_json::{Map, Value, put};
 use std::alloc::{AllocError, Global};
 
 /// An object for each moment of a plan, the earliest first. The only error is want of memory.
@@ -95,28 +96,29 @@ fn moment_object(
 ) -> Result<Value, AllocError>
     ensures { IfOk result (λ v. data_of v ≡ starts_object starts_then.now moment.now) }
 {
-    let own = own_object(alloc, starts_then, moment)?;
-    with_shown(alloc, own, &moment.time.beside)
+    let mut members = own_members(alloc, starts_then, moment)?;
+    put_shown(alloc, &mut members, &moment.time.beside)?;
+    Ok(Value::Object(members))
 }
 
-// The same on the plan's own clock.
-fn own_object(
+// Its members on the plan's own clock.
+fn own_members(
     alloc: Global,
     starts_then: &[JobStart],
     moment: &TimedMoment,
-) -> Result<Value, AllocError>
-    ensures { IfOk result (λ v. data_of v ≡ object (moment_members starts_then.now moment.now)) }
+) -> Result<Map<String, Value>, AllocError>
+    ensures { IfOk result (λ members. members_view members.entries ≡ moment_members starts_then.now moment.now) }
 {
-    let (offset, second) = (moment.time.own.ahead.seconds, moment.moment.second);
-    let starts = moment.moment.starts;
-    json!(in alloc; {
-        "counts": counts_value(alloc, starts_then)?,
-        "jobs": places_value(alloc, starts_then)?,
-        "offset": offset,
-        "second": second,
-        "starts": starts,
-        "time": time_value(alloc, &moment.time.own)?
-    })
+    let mut members = Map::new(alloc);
+    let counts = counts_value(alloc, starts_then)?;
+    put(&mut members, alloc, "counts", counts)?;
+    let places = places_value(alloc, starts_then)?;
+    put(&mut members, alloc, "jobs", places)?;
+    put_integer(alloc, &mut members, "offset", moment.time.own.ahead.seconds)?;
+    put_integer(alloc, &mut members, "second", moment.moment.second)?;
+    put_count(alloc, &mut members, "starts", moment.moment.starts)?;
+    put_time(alloc, &mut members, &moment.time.own)?;
+    Ok(members)
 }
 
 // How many times each job is started.

@@ -5,9 +5,10 @@ ghost use Rattle.serde_json.specs.View.{view as data_of, items_of};
 ghost use Rattle.cronplan_json.specs.Objects.{window_object};
 ghost use Rattle.cronplan_json.specs.PlanJson.{AreQuietOf};
 
-use crate::instants::instant_object;
+use crate::instants::put_instant;
+use crate::members::{put_count, put_flag};
 use cronplan_forms::{TimedWindow, View, is_at_edge, timed_windows};
-use serde_json::{Value, json};
+use serde_json::{Map, Value};
 use std::alloc::{AllocError, Global};
 
 /// The least seconds of a window that is told.
@@ -36,11 +37,10 @@ fn window_items(alloc: Global, windows: &[TimedWindow]) -> Result<Vec<Value>, Al
 fn window_object(alloc: Global, window: &TimedWindow) -> Result<Value, AllocError>
     ensures { IfOk result (λ v. data_of v ≡ window_object window.now) }
 {
-    let (is_open, seconds) = (is_at_edge(&window.window), window.window.seconds());
-    json!(in alloc; {
-        "from": instant_object(alloc, &window.from)?,
-        "open": is_open,
-        "seconds": seconds,
-        "to": instant_object(alloc, &window.until)?
-    })
+    let mut members = Map::new(alloc);
+    put_instant(alloc, &mut members, "from", &window.from)?;
+    put_flag(alloc, &mut members, "open", is_at_edge(&window.window))?;
+    put_count(alloc, &mut members, "seconds", window.window.seconds())?;
+    put_instant(alloc, &mut members, "to", &window.until)?;
+    Ok(Value::Object(members))
 }

@@ -1,6 +1,7 @@
-use Rattle.std.proofs.Common.{w64}
+use Rattle.std.proofs.Common.{◌∙◌, w64}
 use Rattle.std.proofs.lemmas.Int.{to_z-of_z}
-use Rattle.serde_json.specs.View.{view}
+use Rattle.serde_json.proofs.Views.{view-Object}
+use Rattle.serde_json.specs.View.{members_view, view}
 use Rattle.cronplan_json.specs.PlanJson.{Told}
 use Rattle.cronplan_json.proofs.SpanSides.{first_fits, end_fits}
 use Rattle.cronplan_json.proofs.Whole.{with_lists}
@@ -24,6 +25,8 @@ returns c =
         days_are = days.1;
         hours_are = hours.1;
       };
-      data_is = with_lists c.args.view told (view c.in_ok-object.object) (view c.in_ok-days.days) (view c.in_ok-hours.hours) (view c.in_ok-moments.moments)
-          (view c.in_ok-quiet.quiet) c.in_ok-object.ensures days.2 hours.2 moments.2 quiet.2;
+      data_is = view-Object c.put_zone.new.members ∙ with_lists c.args.view told (members_view c.in_ok-members.members.entries) (members_view c.put.new.map.entries) (members_view c.put-2.new.map.entries)
+          (members_view c.put-3.new.map.entries) (members_view c.put-4.new.map.entries) (members_view c.put_zone.new.members.entries) (view c.in_ok-days.days) (view c.in_ok-hours.hours)
+          (view c.in_ok-moments.moments) (view c.in_ok-quiet.quiet) c.in_ok-members.ensures c.in_ok-put.ensures.ok c.in_ok-put-2.ensures.ok c.in_ok-put-3.ensures.ok c.in_ok-put-4.ensures.ok
+          c.in_ok-put_zone.ensures days.2 hours.2 moments.2 quiet.2;
     }
