@@ -109,7 +109,7 @@ has_many_lines dialects.Patterns lines f = false
 -- what is said of it
 abbrev pub many_lines_text : Dialect → List ℕ
 many_lines_text dialects.User = codes "it has more than 10000 lines"
-many_lines_text dialects.System = codes "a job or a setting stands behind line 10003"
+many_lines_text dialects.System = codes "a job or a setting stands after line 10003"
 many_lines_text dialects.Patterns = []
 
 -- what is said of a file of this name that cron ignores for what the file system says of it, if it does

@@ -201,7 +201,7 @@ pub fn many_lines_text(dialect: Dialect) -> &'static str
 {
     match dialect {
         Dialect::User => "it has more than 10000 lines",
-        Dialect::System => "a job or a setting stands behind line 10003",
+        Dialect::System => "a job or a setting stands after line 10003",
         Dialect::Patterns => "",
     }
 }
@@ -212,7 +212,7 @@ fn many_lines_line(dialect: Dialect) -> &'static str
 {
     match dialect {
         Dialect::User => "it has more than 10000 lines\n",
-        Dialect::System => "a job or a setting stands behind line 10003\n",
+        Dialect::System => "a job or a setting stands after line 10003\n",
         Dialect::Patterns => "\n",
     }
 }

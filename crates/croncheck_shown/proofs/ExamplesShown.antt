@@ -74,7 +74,7 @@ as_many_lines_as_cron_takes : ending_of dialects.User 10_000 (unread (codes "bac
 as_many_lines_as_cron_takes = refl
 
 a_late_job : ending_of dialects.System 10_004 (record (unread (codes "backup")) { has_late = true })
-    ≡ codes "backup: cron ignores the whole file: a job or a setting stands behind line 10003\n"
+    ≡ codes "backup: cron ignores the whole file: a job or a setting stands after line 10003\n"
 a_late_job = refl
 
 two_hard_links : ending_of dialects.System 3 (record refused { unfit = Some unfits.Links })
