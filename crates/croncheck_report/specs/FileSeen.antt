@@ -132,8 +132,8 @@ is_ignored dialects.Patterns lines f = false
 abbrev pub reasons_of : Dialect → ℕ → File → List ℕ
 reasons_of dialect lines f =
     ((unfit_reason f.name f.unfit ++ if_so f.has_refused (ignored f.name (codes "a line is refused\n")))
-    ++ if_so f.is_unfed (ignored f.name (codes "its last line has no line feed\n")))
-    ++ if_so (has_many_lines dialect lines f) (ignored f.name (many_lines_text dialect ++ codes "\n"))
+    ++ if_so f.is_unfed (ignored f.name (codes "its last line has no line feed (no-newline)\n")))
+    ++ if_so (has_many_lines dialect lines f) (ignored f.name (many_lines_text dialect ++ codes " (many-lines)\n"))
 
 -- the same of a file, which may be one of patterns: cron doesn't read it
 abbrev pub whole_of : Dialect → ℕ → File → List ℕ
