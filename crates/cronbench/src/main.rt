@@ -4,8 +4,7 @@
 //! has the sum of each group's answers, the same in every run. Standard error has the nanoseconds of processor time of one
 //! call, in the fastest round. If standard input has no pattern, standard error says so, and nothing is measured.
 //!
-//! With the word `memory` it answers each line of standard input, which is a case of calls that ask for memory. With `keep`,
-//! `whole` or `compact` and a number, a scheduler keeps so many jobs of that form, so that their memory can be counted.
+//! With `keep`, `whole` or `compact` and a number, a scheduler keeps so many jobs of that form, so that their memory can be counted.
 #![tactic(auto)]
 
 mod answers;
@@ -16,7 +15,6 @@ mod hostile;
 mod keep;
 mod many;
 mod measure;
-mod memory;
 mod paris;
 mod passes;
 mod scheduler;
@@ -30,7 +28,6 @@ use given::Asked;
 use group::{GROUPS, Group, SCHEDULERS};
 use keep::keep_jobs;
 use measure::{Measured, measure};
-use memory::answer_cases;
 use paris::Clocks;
 use std::io;
 use std::io::ErrorKind;
@@ -43,7 +40,6 @@ const MISUSED: u8 = 2;
 const NO_PATTERN: &str = "No pattern stands on standard input: nothing is measured.";
 
 const USAGE: &str = "usage: cronbench [ROUNDS] < PATTERNS
-       cronbench memory < CASES
        cronbench keep whole|compact JOBS";
 
 // Shows what was measured of a group, whose name is `name` and then `mark`.
@@ -112,7 +108,6 @@ fn read_words(rt: &HostRuntime) -> io::Result<Option<Asked>> {
 fn main(rt: HostRuntime) -> io::Result<ExitCode> {
     match read_words(&rt)? {
         Some(Asked::Rounds(rounds)) => status(&rt, bench(&rt, rounds)),
-        Some(Asked::Memory) => status(&rt, answer_cases(&rt)),
         Some(Asked::Keep(form, jobs)) => status(&rt, keep_jobs(&rt, form, jobs)),
         None => {
             eprintln!(rt; "{USAGE}")?;

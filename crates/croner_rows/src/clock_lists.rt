@@ -1,8 +1,8 @@
 //! Clocks of one kind, and calls that are made over them.
 
 use crate::{
-    Caller, Fault, Outcome, Result, clock_table, list, member, narrow_time, number, parts,
-    read_rule, switch,
+    Caller, Fault, Outcome, Result, list, member, narrow_time, number, parts, read_rule, switch,
+    table_of,
 };
 use croner::Clocked;
 use croner::time::table::{ClockTable, TableTime};
@@ -32,7 +32,7 @@ pub fn over_clocks<C: OverClocks>(
         Some(Value::Null) => calls.outcome(caller, &[DateTime::MIN]),
         Some(zone) if zone.get("rule").is_some() => over_rules(caller, zones, calls),
         Some(zone) => {
-            let tables = tables_of(caller.alloc, zones)?;
+            let tables = tables_of(caller.without_marks(), zones)?;
             let times = times_of(caller.alloc, zones, tables.as_slice())?;
             over_tables(caller, zone, zones, times.as_slice(), calls)
         }
@@ -68,10 +68,10 @@ fn over_tables<C: OverClocks>(
     }
 }
 
-fn tables_of(alloc: Global, zones: &[Value]) -> Result<Vec<ClockTable>> {
-    let mut tables = Vec::new(alloc);
+fn tables_of(caller: Caller<'_>, zones: &[Value]) -> Result<Vec<ClockTable>> {
+    let mut tables = Vec::new(caller.alloc);
     for zone in zones {
-        tables.push(clock_table(alloc, zone)?)?;
+        tables.push(table_of(caller, zone)?)?;
     }
     Ok(tables)
 }

@@ -20,11 +20,12 @@ pub mod shown;
 mod subjects;
 mod texts;
 mod times;
+mod zones;
 
 pub use asked::ask;
 pub use clock_lists::{OverClocks, over_clocks};
 pub use clocks::{
-    OverTime, add_series, clock_changes, clock_table, narrow_time, over_time, read_rule,
+    OverTime, add_series, narrow_time, over_time, table_of
 };
 pub use faults::Fault;
 pub use field_calls::{are_alike, calls_in_turn, hash_of, new_component, read_field};
@@ -43,6 +44,7 @@ pub use schedulers::{Named, call_in_turn, call_scheduler, new_scheduler, standin
 pub use subjects::{How, Run, Runs, Subject, Table};
 pub use texts::printed_text;
 pub use times::{bare_text, instants, time_and_job};
+pub use zones::{Window, ZoneSource, read_rule, table_in_window};
 
 /// An answer, or why there is none.
 pub type Result<T, E = Fault> = std::result::Result<T, E>;

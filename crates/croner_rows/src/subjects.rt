@@ -23,7 +23,8 @@ pub struct Run<T> {
 }
 
 impl<T: Moment> Run<T> {
-    fn new(instant: T, places: Option<Vec<usize>>) -> Run<T> {
+    /// A run.
+    pub fn new(instant: T, places: Option<Vec<usize>>) -> Run<T> {
         Run { instant, places }
     }
 
@@ -175,10 +176,15 @@ impl<'j, T: Moment> Runs<'j, T> {
         matches!(self.fault(), Some(CronError::OutOfMemory))
     }
 
-    /// The answer of one call: where a fault is kept after it, the name of the fault, and else the item, or null for None. Lack
-    /// of memory is a fault.
+    /// The answer of one call.
     pub fn item(&mut self, alloc: Global) -> Result<Value> {
         let run = self.next();
+        self.shown(alloc, run)
+    }
+
+    /// The answer of a call that gave this: where a fault is kept, the name of the fault, and else the item, or null for None. Lack
+    /// of memory is a fault.
+    pub fn shown(&self, alloc: Global, run: Option<Run<T>>) -> Result<Value> {
         if let Some(fault) = self.fault() {
             return shown::refusal_value(alloc, fault);
         }

@@ -1,7 +1,8 @@
 //! Jobs as JSON: how they are printed, and whether they are read back.
 
 use croner::Cron;
-use croner_rows::{Fault, Job, Result, member, printed_text, shown};
+use croner::errors::CronError;
+use croner_rows::{Answer, Caller, Fault, Job, Outcome, Result, member, printed_text, shown};
 use serde_json::Value;
 use std::alloc::Global;
 
@@ -12,12 +13,26 @@ pub fn json_again(alloc: Global, question: &Value) -> Result<Value> {
 }
 
 /// A job's JSON as it is printed, and whether the parser of the question reads an equal job with the same text from its
-/// text.
-pub fn reread(alloc: Global, question: &Value, job: &Job) -> Result<Value> {
-    let again = is_read_again(alloc, question, &job.cron)?;
-    let json = Value::String(printed_text(alloc, &job.cron.to_json()?)?);
-    let answer = format!(in alloc; "{{\"json\":{json},\"again\":{again}}}");
-    shown::object(alloc, answer)
+/// text; and the job afterwards.
+pub fn reread(caller: Caller<'_>, question: &Value) -> Result<Outcome> {
+    let job = Job::read(caller.alloc, question)?;
+    caller.begin();
+    let json = job.cron.to_json();
+    caller.end();
+    let answer = printed_and_read(caller.alloc, question, &job.cron, json);
+    Outcome::new(answer, shown::job(caller.alloc, &job.cron))
+}
+
+fn printed_and_read(
+    alloc: Global,
+    question: &Value,
+    cron: &Cron,
+    json: Result<Value, CronError>,
+) -> Result<Answer> {
+    let json = Value::String(printed_text(alloc, &json?)?);
+    let again = is_read_again(alloc, question, cron)?;
+    let text = format!(in alloc; "{{\"json\":{json},\"again\":{again}}}")?;
+    Ok(Answer::Text(text))
 }
 
 // A text that is refused is not read again.

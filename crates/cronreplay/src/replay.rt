@@ -1,21 +1,21 @@
 //! The replay: the answer of each question, and whether it is the wanted one.
 
-use crate::question::answer;
+use crate::question::make_calls;
 use croner::errors::CronError;
-use croner_rows::{Fault, Result, Tool, shown};
+use croner_rows::{Caller, Fault, Result, Tool, shown};
 use serde_json::Value;
 use std::alloc::Global;
 
 /// The replay.
 #[derive(Clone, Copy)]
-pub struct Replay {
-    pub alloc: Global,
+pub struct Replay<'r> {
+    pub caller: Caller<'r>,
 }
 
-impl Tool for Replay {
+impl<'r> Tool for Replay<'r> {
     fn answer(&self, question: &Value) -> Result<Value> {
-        let got = match answer(self.alloc, question) {
-            Err(Fault::Refused(error)) => refusal_wanted(self.alloc, question, &error)?,
+        let got = match answer(self.caller, question) {
+            Err(Fault::Refused(error)) => refusal_wanted(self.caller.alloc, question, &error)?,
             answered => answered?,
         };
         match question.get("want") {
@@ -35,6 +35,10 @@ impl Tool for Replay {
             _ => *got == *want,
         }
     }
+}
+
+fn answer(caller: Caller<'_>, question: &Value) -> Result<Value> {
+    make_calls(caller, question)?.into_value(caller.alloc)
 }
 
 // A refusal as the question wants it: the name of its variant, or, if the member `message` is `"whole"`, the message. If that

@@ -1,7 +1,6 @@
 //! Copies of each type that holds memory.
 
-use crate::iterators::item_text;
-use crate::tables::texts_of;
+use crate::searches::job_texts;
 use croner::crontable::CronTable;
 use croner::errors::CronError;
 use croner::time::Resolution;
@@ -38,7 +37,7 @@ impl Shown for Cron {
 
 impl Shown for CronTable {
     fn text(&self, alloc: Global) -> Result<String> {
-        texts_of(alloc, self, self.len())
+        Ok(job_texts(alloc, self, self.len())?.to_string(alloc)?)
     }
 }
 
@@ -70,17 +69,17 @@ fn shown_copy<S: Shown>(alloc: Global, copy: Result<S, AllocError>) -> Result<An
     Ok(Answer::Text(text?))
 }
 
-/// A copy, and afterwards what was copied. The kind is what follows `clone of a` in the operation.
+/// A copy, and afterwards what was copied. The kind is what follows `clone_of_` in the operation.
 pub fn clone_of(caller: Caller<'_>, question: &Value, kind: &str) -> Result<Outcome> {
     match kind {
-        " field" => copy_original(caller, &read_field(caller.alloc, question)?),
-        " pattern" => copy_original(caller, &Job::read(caller.alloc, question)?.cron.pattern),
-        " job" => copy_original(caller, &Job::read(caller.alloc, question)?.cron),
-        " table" => copy_original(caller, &Table::read(caller.alloc, question)?.jobs),
-        "n error" => error_clone(caller, question),
-        " time" => over_time(caller, question, &CopyOfTime),
-        " resolution" => over_time(caller, question, &CopyOfResolution),
-        "n iterator" => iterator_clone(caller, question),
+        "field" => copy_original(caller, &read_field(caller.alloc, question)?),
+        "pattern" => copy_original(caller, &Job::read(caller.alloc, question)?.cron.pattern),
+        "job" => copy_original(caller, &Job::read(caller.alloc, question)?.cron),
+        "table" => copy_original(caller, &Table::read(caller.alloc, question)?.jobs),
+        "error" => error_clone(caller, question),
+        "time" => over_time(caller, question, &CopyOfTime),
+        "resolution" => over_time(caller, question, &CopyOfResolution),
+        "iterator" => iterator_clone(caller, question),
         _ => Err(Fault::Unsupported),
     }
 }
@@ -149,7 +148,7 @@ fn copy_and_item<T: Moment>(alloc: Global, copy: Result<Runs<'_, T>>) -> Result<
 // The fault that an iterator keeps, and the item that it gives then.
 fn fault_and_item<T: Moment>(alloc: Global, runs: &mut Runs<'_, T>) -> Result<String> {
     let fault = runs.fault_name();
-    let item = item_text(alloc, runs.next())?;
+    let item = runs.item(alloc)?;
     Ok(format!(in alloc; "{fault} {item}")?)
 }
 

@@ -8,8 +8,7 @@ use croner::time::{
 };
 use croner_rows::shown::text;
 use croner_rows::{
-    Caller, Fault, Outcome, Result, are_alike, clock_changes, member, number_at, read_rule,
-    three_numbers,
+    Caller, Fault, Outcome, Result, are_alike, number, number_at, table_of, three_numbers,
 };
 use serde_json::Value;
 use std::alloc::Global;
@@ -19,7 +18,7 @@ const SECONDS_PER_DAY: i64 = 86_400;
 // The bytes reserved for the text of a date and time.
 const TEXT_BYTES: usize = 64;
 
-/// Questions about a date: whether its year is a leap year, the year's days, the month's days, and the day of the year.
+/// Questions about a date: its text, whether its year is a leap year, the year's days, the month's days, and the day of the year.
 /// Also whether all ways of making the date give it; or that there is no such date.
 pub fn calendar(caller: Caller<'_>, question: &Value) -> Result<Outcome> {
     let (year, month, day) = three_numbers(question, "date")?;
@@ -30,7 +29,7 @@ pub fn calendar(caller: Caller<'_>, question: &Value) -> Result<Outcome> {
     caller.end();
     match date {
         Ok(date) => shown_date(caller, date, found, (leap, days)),
-        Err(error) if found.is_none() => Ok(Outcome::of(caller.alloc, Err(Fault::from(error)))),
+        Err(error) if found.is_none() => Err(Fault::from(error)),
         Err(_) => Err(Fault::Malformed),
     }
 }
@@ -46,7 +45,7 @@ fn shown_date(
     let same = found == Some(date) && is_same_date(date);
     caller.end();
     let (leap, days) = year;
-    let text = format!(in caller.alloc; "[{leap},{days},{length},{place},{same}]");
+    let text = format!(in caller.alloc; "[\"{date}\",{leap},{days},{length},{place},{same}]");
     Outcome::of_text(caller.alloc, text)
 }
 
@@ -60,12 +59,12 @@ fn is_same_date(date: CivilDate) -> bool {
     is_told_alike && are_alike(&again, &date)
 }
 
-/// The weekday that many days from Sunday, and the one a day later.
+/// The weekday that many days from Sunday, and the one so many days later.
 pub fn weekday(caller: Caller<'_>, question: &Value) -> Result<Outcome> {
-    let days = number_at(question, "days")?;
+    let (days, shift): (_, i16) = (number_at(question, "days")?, number_at(question, "shift")?);
     caller.begin();
     let weekday = Weekday::from_days_from_sunday(days);
-    let later = weekday.shift(1);
+    let later = weekday.shift(i32::from(shift));
     let (days, days_later) = (weekday.num_days_from_sunday(), later.num_days_from_sunday());
     let same = are_alike(&weekday, &weekday);
     caller.end();
@@ -111,7 +110,7 @@ pub fn date_and_time(caller: Caller<'_>, question: &Value) -> Result<Outcome> {
     caller.end();
     match civil {
         Ok(civil) => shown_civil(caller, civil, found),
-        Err(error) => Ok(Outcome::of(caller.alloc, Err(Fault::from(error)))),
+        Err(error) => Err(Fault::from(error)),
     }
 }
 
@@ -140,37 +139,13 @@ fn is_same_civil(civil: CivilDateTime) -> bool {
     are_alike(&again, &civil)
 }
 
-/// The table of a first offset and changes, and calls of a second on its clock: how many instants show what it shows, and the
-/// second a day later.
+/// The table of a clock, and calls of a second on it, if the question has one: how many instants show what it shows, and the second
+/// a day later.
 pub fn clock_table(caller: Caller<'_>, question: &Value) -> Result<Outcome> {
-    let first = number_at(question, "first")?;
-    let second = number_at(question, "second")?;
-    let changes = clock_changes(caller.alloc, question)?;
-    caller.begin();
-    let table = ClockTable::new(first, changes);
-    caller.end();
-    told_of_table(caller, table, second)
-}
-
-/// The table of a rule's zone in a window, and calls of a second on its clock, as for a table of offsets.
-pub fn zone_table(caller: Caller<'_>, question: &Value) -> Result<Outcome> {
-    let (first, last) = (number_at(question, "first")?, number_at(question, "last")?);
-    let second = number_at(question, "second")?;
-    let zone = read_rule(member(question, "rule")?)?;
-    caller.begin();
-    let table = ClockTable::of_zone(caller.alloc, &zone, first, last);
-    caller.end();
-    told_of_table(caller, table, second)
-}
-
-fn told_of_table(
-    caller: Caller<'_>,
-    table: Result<ClockTable, CronError>,
-    second: i64,
-) -> Result<Outcome> {
-    match table {
-        Ok(table) => second_on(caller, &table, second),
-        Err(error) => Ok(Outcome::of(caller.alloc, Err(Fault::from(error)))),
+    let table = table_of(caller, question)?;
+    match question.get("second") {
+        Some(second) => second_on(caller, &table, number(second)?),
+        None => Ok(Outcome::of_value(caller.alloc, text(caller.alloc, "ok")?)),
     }
 }
 

@@ -1,0 +1,162 @@
+//! Searches for runs from a start, and what a clock shows there.
+
+use croner::errors::CronError;
+use croner::time::Direction;
+use croner::{CompactCron, crontable::CronTable};
+use croner_rows::{
+    Answer, Caller, Moment, Outcome, OverTime, Result, Run, Subject, bare_text, flag, number_at, over_time, shown,
+    time_and_job,
+};
+use serde_json::Value;
+use std::alloc::Global;
+
+/// So many searches in a direction, each from the run before; whether the first may find its start.
+#[derive(Clone, Copy)]
+pub struct Search {
+    pub direction: Direction,
+    pub inclusive: bool,
+    pub count: u64,
+}
+
+impl Search {
+    // The searches of a question.
+    fn read(question: &Value, direction: Direction) -> Result<Search> {
+        let (inclusive, count) = (flag(question, "inclusive")?, number_at(question, "count")?);
+        Ok(Search {
+            direction,
+            inclusive,
+            count,
+        })
+    }
+
+    /// The runs from a start on, nearest first. Where a search is refused, the refusal is the last item.
+    pub fn runs<T: Moment>(self, caller: Caller<'_>, searched: Searched<'_>, start: &T) -> Result<Value> {
+        let mut last = None;
+        let mut runs = Vec::new(caller.alloc);
+        for _ in 0..self.count {
+            caller.begin();
+            let found = match &last {
+                None => searched.run_from(start, self.inclusive, self.direction),
+                Some(run) => searched.run_from(run, false, self.direction),
+            };
+            caller.end();
+            match found {
+                Ok(run) => {
+                    runs.push(run.shown(caller.alloc)?)?;
+                    last = Some(run.instant);
+                }
+                Err(refused) => {
+                    runs.push(shown::refusal_value(caller.alloc, &refused)?)?;
+                    break;
+                }
+            }
+        }
+        Ok(Value::Array(runs))
+    }
+}
+
+/// What is searched.
+#[derive(Clone, Copy)]
+pub enum Searched<'j> {
+    Subject(Subject<'j>),
+    Compact(&'j CompactCron),
+}
+
+impl<'j> Searched<'j> {
+    // The nearest run from a time on in a direction.
+    fn run_from<T: Moment>(
+        self,
+        position: &T,
+        inclusive: bool,
+        direction: Direction,
+    ) -> Result<Run<T>, CronError> {
+        match (self, direction) {
+            (Searched::Subject(subject), _) => subject.run_from(position, inclusive, direction),
+            (Searched::Compact(job), Direction::Forward) => {
+                Ok(Run::new(job.find_next_occurrence(position, inclusive)?, None))
+            }
+            (Searched::Compact(job), Direction::Backward) => {
+                Ok(Run::new(job.find_previous_occurrence(position, inclusive)?, None))
+            }
+        }
+    }
+}
+
+// Searches for runs of a subject.
+#[derive(Clone, Copy)]
+struct Searching<'j> {
+    subject: Subject<'j>,
+    search: Search,
+}
+
+impl<'j> OverTime for Searching<'j> {
+    fn outcome<T: Moment>(&self, caller: Caller<'_>, start: T) -> Result<Outcome> {
+        let found = found(caller, self.search, self.subject, &start);
+        let after = start_and_subject(caller.alloc, &start, self.subject);
+        Outcome::new(found.map(Answer::Value), after)
+    }
+}
+
+// The runs of a subject; of a job if its form in few words has the same, or else those of both forms.
+fn found<T: Moment>(caller: Caller<'_>, search: Search, subject: Subject<'_>, start: &T) -> Result<Value> {
+    let found = search.runs(caller, Searched::Subject(subject), start)?;
+    let Subject::Job(job) = subject else {
+        return Ok(found);
+    };
+    let compact = CompactCron::of(caller.alloc, &job.cron)?;
+    let found_compactly = search.runs(caller.without_marks(), Searched::Compact(&compact), start)?;
+    if found_compactly == found {
+        return Ok(found);
+    }
+    shown::pair(caller.alloc, found, found_compactly)
+}
+
+fn start_and_subject<T: Moment>(alloc: Global, start: &T, subject: Subject<'_>) -> Result<String> {
+    match subject {
+        Subject::Job(job) => time_and_job(alloc, start, job),
+        Subject::Table(table) => time_and_table(alloc, start, table),
+    }
+}
+
+fn time_and_table<T: Moment>(alloc: Global, time: &T, table: &CronTable) -> Result<String> {
+    let (time, texts) = (bare_text(alloc, time)?, job_texts(alloc, table, table.len())?);
+    Ok(format!(in alloc; "{time} {texts}")?)
+}
+
+/// The texts of the first jobs of a table, in order.
+pub fn job_texts(alloc: Global, table: &CronTable, count: usize) -> Result<Value> {
+    let mut texts = Vec::new(alloc);
+    for job in table.iter().take(count) {
+        texts.push(shown::text(alloc, job.as_str())?)?;
+    }
+    Ok(Value::Array(texts))
+}
+
+/// Searches for runs of a subject from the start of a question, and afterwards the start and the subject.
+pub fn runs_from_start(caller: Caller<'_>, question: &Value, subject: Subject<'_>, direction: Direction) -> Result<Outcome> {
+    let search = Search::read(question, direction)?;
+    over_time(caller, question, &Searching { subject, search })
+}
+
+// What a time shows.
+#[derive(Clone, Copy)]
+struct Reading;
+
+impl OverTime for Reading {
+    fn outcome<T: Moment>(&self, caller: Caller<'_>, time: T) -> Result<Outcome> {
+        caller.begin();
+        let (civil, weekday) = (time.to_civil(), time.civil_weekday());
+        let same = time.cmp_instant(&time).is_eq();
+        caller.end();
+        let weekday = weekday.num_days_from_sunday();
+        let text = format!(in caller.alloc; "[\"{civil}\",{weekday}]")?;
+        let answer = if same { text } else { String::new(caller.alloc) };
+        Outcome::new(Ok(Answer::Text(answer)), bare_text(caller.alloc, &time))
+    }
+}
+
+/// What the start of a question shows, and the weekday from Sunday. There is no answer where the start isn't the same instant as
+/// itself.
+pub fn shown_at_start(caller: Caller<'_>, question: &Value) -> Result<Outcome> {
+    over_time(caller, question, &Reading)
+}
