@@ -8,6 +8,7 @@
 #![tactic(auto)]
 
 mod answers;
+mod clocks;
 mod forms;
 mod given;
 mod group;
@@ -15,24 +16,22 @@ mod hostile;
 mod keep;
 mod many;
 mod measure;
-mod paris;
 mod passes;
 mod scheduler;
 mod starts;
-mod subjects;
 mod watch;
 
-use croner_rows::{Result, status};
+use croner_rows::{Job, Result, status};
 use forms::JobForm;
 use given::Asked;
 use group::{GROUPS, Group, SCHEDULERS};
 use keep::keep_jobs;
-use measure::{Measured, measure};
-use paris::Clocks;
+use measure::{Measured, Subjects, measure};
+use passes::read;
+use std::alloc::Global;
 use std::io;
 use std::io::ErrorKind;
 use std::process::ExitCode;
-use subjects::Subjects;
 
 /// The status if the words don't have their form.
 const MISUSED: u8 = 2;
@@ -62,17 +61,16 @@ fn bench(rt: &HostRuntime, rounds: u32) -> Result<bool> {
         eprintln!(rt; "{NO_PATTERN}")?;
         Ok(true)
     } else {
-        bench_by(rt, patterns, rounds)
+        bench_by(rt, patterns.as_slice(), rounds)
     }
 }
 
-fn bench_by(rt: &HostRuntime, patterns: Vec<String>, rounds: u32) -> Result<bool> {
-    let clocks = Clocks::new(rt.alloc())?;
-    let subjects = Subjects::new(rt.alloc(), patterns, &clocks)?;
-    bench_on(rt, &subjects, rounds)
-}
-
-fn bench_on(rt: &HostRuntime, subjects: &Subjects<'_>, rounds: u32) -> Result<bool> {
+fn bench_by(rt: &HostRuntime, patterns: &[String], rounds: u32) -> Result<bool> {
+    let jobs = jobs(rt.alloc(), patterns)?;
+    let subjects = Subjects {
+        patterns,
+        jobs: jobs.as_slice(),
+    };
     for (group, name) in GROUPS {
         let measured = measure(rt, group, name, subjects, rounds)?;
         show(rt, name, "", measured)?;
@@ -82,11 +80,19 @@ fn bench_on(rt: &HostRuntime, subjects: &Subjects<'_>, rounds: u32) -> Result<bo
     Ok(true)
 }
 
+fn jobs(alloc: Global, patterns: &[String]) -> Result<Vec<Job>> {
+    let mut jobs = Vec::new(alloc);
+    for pattern in patterns {
+        jobs.push(read(alloc, pattern.as_str())?)?;
+    }
+    Ok(jobs)
+}
+
 // Measures the calls of schedulers whose jobs have a form.
 fn bench_schedulers(
     rt: &HostRuntime,
     form: JobForm,
-    subjects: &Subjects<'_>,
+    subjects: Subjects<'_>,
     rounds: u32,
 ) -> Result<()> {
     for (calls, name) in SCHEDULERS {
