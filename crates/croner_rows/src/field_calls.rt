@@ -1,8 +1,6 @@
 //! Calls of one field.
 
-use crate::{
-    Answer, Caller, Fault, Outcome, Result, items, list, member, number, parts, shown, word,
-};
+use crate::{Caller, Fault, Outcome, Result, items, list, member, number, parts, shown, word};
 use croner::CronComponent;
 use croner::component::{ALL_BIT, LAST_BIT};
 use croner::errors::CronError;
@@ -159,7 +157,7 @@ pub fn call_of_field(caller: Caller<'_>, question: &Value) -> Result<Outcome> {
     caller.begin();
     let given = make(caller.alloc, &mut field, call);
     caller.end();
-    let answer = given_value(caller.alloc, given).map(Answer::Value);
+    let answer = given_value(caller.alloc, given);
     let outcome = Outcome::new(answer, shown::field(caller.alloc, &field));
     drop(field);
     outcome

@@ -1,8 +1,8 @@
 //! Calls of one pattern: what its fields match.
 
 use crate::{
-    Answer, Caller, Fault, Job, Outcome, Result, direction, number_at, shown, text, three_numbers,
-    weekday, word,
+    Caller, Fault, Job, Outcome, Result, direction, number_at, shown, text, three_numbers, weekday,
+    word,
 };
 use croner::time::TimeComponent;
 use croner::{Cron, CronComponent, CronPattern};
@@ -106,5 +106,5 @@ fn outcome_of_call(
     let answer = answer_of_call(pattern, question, op);
     caller.end();
     let after = shown::pattern(caller.alloc, pattern);
-    Outcome::new(answer.map(Answer::Value), after)
+    Outcome::new(answer, after)
 }

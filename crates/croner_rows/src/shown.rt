@@ -81,6 +81,14 @@ pub fn object(alloc: Global, text: Result<String, AllocError>) -> Result<Value> 
     json(alloc, text.as_bytes())
 }
 
+/// A value as a text; that of a text is without quotes.
+pub fn bare(alloc: Global, value: Value) -> Result<String> {
+    match value {
+        Value::String(text) => Ok(text),
+        value => Ok(value.to_string(alloc)?),
+    }
+}
+
 /// Two values as a list.
 pub fn pair(alloc: Global, one: Value, other: Value) -> Result<Value> {
     let mut both = Vec::new(alloc);

@@ -1,8 +1,6 @@
 //! Texts and JSON values that are read, and descriptions.
 
-use crate::{
-    Answer, Caller, Fault, Job, Outcome, Result, member, read_parser, shown, text, whole_text,
-};
+use crate::{Caller, Fault, Job, Outcome, Result, member, read_parser, shown, text, whole_text};
 use croner::describe::lang::swedish::Swedish;
 use croner::errors::CronError;
 use croner::{Cron, CronPattern};
@@ -20,9 +18,10 @@ pub fn parse(caller: Caller<'_>, question: &Value) -> Result<Outcome> {
 }
 
 /// What a job that was read holds.
-pub fn held_answer(alloc: Global, read: Result<Cron, CronError>) -> Result<Answer> {
+pub fn held_answer(alloc: Global, read: Result<Cron, CronError>) -> Result<Value> {
     let job = Job::new(read?);
-    Ok(Answer::Text(shown::job(alloc, &job.cron)?))
+    let text = shown::job(alloc, &job.cron)?;
+    shown::json(alloc, text.as_bytes())
 }
 
 /// The job that the JSON value of a question is read as, and the value afterwards.
@@ -51,11 +50,11 @@ pub fn unparsed_text(caller: Caller<'_>, question: &Value) -> Result<Outcome> {
     Ok(Outcome::of(caller.alloc, kept_text(caller.alloc, made)))
 }
 
-fn kept_text(alloc: Global, made: Result<CronPattern, CronError>) -> Result<Answer> {
+fn kept_text(alloc: Global, made: Result<CronPattern, CronError>) -> Result<Value> {
     let pattern = made?;
     let kept = shown::text(alloc, pattern.as_str());
     drop(pattern);
-    Ok(Answer::Value(kept?))
+    kept
 }
 
 fn description_of(cron: &Cron, language: &str) -> Result<String> {
@@ -78,6 +77,6 @@ pub fn describe(caller: Caller<'_>, question: &Value) -> Result<Outcome> {
     Outcome::new(text_answer(text), shown::job(caller.alloc, &job.cron))
 }
 
-fn text_answer(text: Result<String>) -> Result<Answer> {
-    Ok(Answer::Value(Value::String(text?)))
+fn text_answer(text: Result<String>) -> Result<Value> {
+    Ok(Value::String(text?))
 }

@@ -1,8 +1,7 @@
 //! Calls of a time: whether a job names it, which instants show a second, and the instant a number of seconds later.
 
 use crate::{
-    Answer, Caller, Job, Moment, Outcome, OverTime, Result, civil, civil_value, number_at,
-    over_time, shown,
+    Caller, Job, Moment, Outcome, OverTime, Result, civil, civil_value, number_at, over_time, shown,
 };
 use croner::errors::CronError;
 use croner::time::{CivilDateTime, Resolution};
@@ -25,8 +24,8 @@ impl<'j> OverTime for Naming<'j> {
     }
 }
 
-fn truth_answer(answer: Result<bool, CronError>) -> Result<Answer> {
-    Ok(Answer::Value(Value::Bool(answer?)))
+fn truth_answer(answer: Result<bool, CronError>) -> Result<Value> {
+    Ok(Value::Bool(answer?))
 }
 
 /// A time and a job as texts.
@@ -37,7 +36,7 @@ pub fn time_and_job<T: Moment>(alloc: Global, time: &T, job: &Job) -> Result<Str
 
 /// A time as a text without quotes.
 pub fn bare_text<T: Moment>(alloc: Global, time: &T) -> Result<String> {
-    Answer::Value(time.shown(alloc)?).into_text(alloc)
+    shown::bare(alloc, time.shown(alloc)?)
 }
 
 /// Whether a job names the start of a question, or, if there is none, its date and time `at` in civil time.
@@ -66,9 +65,9 @@ impl OverTime for Resolving {
 fn found_instants<T: Moment>(
     alloc: Global,
     found: Result<Resolution<T>, CronError>,
-) -> Result<Answer> {
+) -> Result<Value> {
     let found = found?;
-    Ok(Answer::Value(instants(alloc, &found)?))
+    instants(alloc, &found)
 }
 
 /// The instants that a date and time names, ascending.
@@ -104,10 +103,10 @@ impl OverTime for Adding {
     }
 }
 
-fn sum_found<T: Moment>(alloc: Global, sum: Result<Option<T>, CronError>) -> Result<Answer> {
+fn sum_found<T: Moment>(alloc: Global, sum: Result<Option<T>, CronError>) -> Result<Value> {
     match sum? {
-        Some(time) => Ok(Answer::Value(time.shown(alloc)?)),
-        None => Ok(Answer::Value(Value::Null)),
+        Some(time) => time.shown(alloc),
+        None => Ok(Value::Null),
     }
 }
 

@@ -128,7 +128,7 @@ fn shown_civil(
     caller.end();
     written?;
     let text = format!(in caller.alloc;
-        "{text} [{year},{month},{day},{hour},{minute},{second}] {same}"
+        "[\"{text}\",{year},{month},{day},{hour},{minute},{second},{same}]"
     );
     Outcome::of_text(caller.alloc, text)
 }

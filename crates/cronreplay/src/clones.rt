@@ -6,8 +6,8 @@ use croner::errors::CronError;
 use croner::time::Resolution;
 use croner::{Cron, CronComponent, CronPattern};
 use croner_rows::{
-    Answer, Caller, Fault, How, Job, Moment, Outcome, OverTime, Result, Runs, Subject, Table,
-    bare_text, instants, over_time, read_field, shown, text,
+    Caller, Fault, How, Job, Moment, Outcome, OverTime, Result, Runs, Subject, Table, bare_text,
+    instants, over_time, read_field, shown, text,
 };
 use serde_json::Value;
 use std::alloc::{AllocError, Global};
@@ -62,11 +62,11 @@ fn copy_original<S: Shown>(caller: Caller<'_>, original: &S) -> Result<Outcome> 
     Outcome::new(shown_copy(caller.alloc, copy), original.text(caller.alloc))
 }
 
-fn shown_copy<S: Shown>(alloc: Global, copy: Result<S, AllocError>) -> Result<Answer> {
+fn shown_copy<S: Shown>(alloc: Global, copy: Result<S, AllocError>) -> Result<Value> {
     let copy = copy?;
     let text = copy.text(alloc);
     drop(copy);
-    Ok(Answer::Text(text?))
+    Ok(Value::String(text?))
 }
 
 /// A copy, and afterwards what was copied. The kind is what follows `clone_of_` in the operation.
@@ -109,9 +109,9 @@ impl OverTime for CopyOfTime {
     }
 }
 
-fn shown_time<T: Moment>(alloc: Global, time: Result<T, AllocError>) -> Result<Answer> {
+fn shown_time<T: Moment>(alloc: Global, time: Result<T, AllocError>) -> Result<Value> {
     let time = time?;
-    Ok(Answer::Value(time.shown(alloc)?))
+    time.shown(alloc)
 }
 
 // The instants of what a time shows, which are copied.
@@ -140,9 +140,9 @@ impl<'j> OverTime for CopyOfIterator<'j> {
     }
 }
 
-fn copy_and_item<T: Moment>(alloc: Global, copy: Result<Runs<'_, T>>) -> Result<Answer> {
+fn copy_and_item<T: Moment>(alloc: Global, copy: Result<Runs<'_, T>>) -> Result<Value> {
     let mut runs = copy?;
-    Ok(Answer::Text(fault_and_item(alloc, &mut runs)?))
+    Ok(Value::String(fault_and_item(alloc, &mut runs)?))
 }
 
 // The fault that an iterator keeps, and the item that it gives then.

@@ -2,7 +2,7 @@
 
 use croner::Cron;
 use croner::errors::CronError;
-use croner_rows::{Answer, Caller, Fault, Job, Outcome, Result, member, printed_text, shown};
+use croner_rows::{Caller, Fault, Job, Outcome, Result, member, printed_text, shown};
 use serde_json::Value;
 use std::alloc::Global;
 
@@ -28,11 +28,11 @@ fn printed_and_read(
     question: &Value,
     cron: &Cron,
     json: Result<Value, CronError>,
-) -> Result<Answer> {
+) -> Result<Value> {
     let json = Value::String(printed_text(alloc, &json?)?);
     let again = is_read_again(alloc, question, cron)?;
-    let text = format!(in alloc; "{{\"json\":{json},\"again\":{again}}}")?;
-    Ok(Answer::Text(text))
+    let answer = format!(in alloc; "{{\"json\":{json},\"again\":{again}}}");
+    shown::object(alloc, answer)
 }
 
 // A text that is refused is not read again.

@@ -3,7 +3,8 @@
 use croner::CronIterator;
 use croner::time::Direction;
 use croner_rows::{
-    Answer, Caller, Fault, How, Job, Moment, Outcome, OverTime, Result, Runs, Subject, civil_value, number_at, over_time, switch,
+    Caller, Fault, How, Job, Moment, Outcome, OverTime, Result, Runs, Subject, civil_value,
+    number_at, over_time, switch,
 };
 use serde_json::Value;
 
@@ -60,7 +61,12 @@ impl<'j> OverTime for Listing<'j> {
 }
 
 impl<'j> Listing<'j> {
-    fn items<T: Moment>(&self, caller: Caller<'_>, runs: &mut Runs<'j, T>, is_refused: bool) -> Result<Outcome> {
+    fn items<T: Moment>(
+        &self,
+        caller: Caller<'_>,
+        runs: &mut Runs<'j, T>,
+        is_refused: bool,
+    ) -> Result<Outcome> {
         if self.copied {
             return items(caller, &mut runs.copied()?, self.counts, is_refused);
         }
@@ -87,11 +93,11 @@ fn items<T: Moment>(
     Outcome::new(items_or_lacking(items, lacked), Ok(after?))
 }
 
-fn items_or_lacking(items: Value, lacked: bool) -> Result<Answer> {
+fn items_or_lacking(items: Value, lacked: bool) -> Result<Value> {
     if lacked {
         return Err(Fault::OutOfMemory);
     }
-    Ok(Answer::Value(items))
+    Ok(items)
 }
 
 /// The answers of a number of calls of `next`, and whether one lacked memory.
@@ -109,7 +115,11 @@ pub fn next_items<T: Moment>(
 }
 
 // One call between marks: its answer. If it lacks memory, that is noted, and the next call has memory.
-fn next_item<T: Moment>(caller: Caller<'_>, runs: &mut Runs<'_, T>, lacked: &mut bool) -> Result<Value> {
+fn next_item<T: Moment>(
+    caller: Caller<'_>,
+    runs: &mut Runs<'_, T>,
+    lacked: &mut bool,
+) -> Result<Value> {
     caller.begin();
     let run = runs.next();
     caller.end();
@@ -121,7 +131,11 @@ fn next_item<T: Moment>(caller: Caller<'_>, runs: &mut Runs<'_, T>, lacked: &mut
 }
 
 /// The items of an iterator over the runs of a subject from the start of a question.
-pub fn items_from_start(caller: Caller<'_>, question: &Value, subject: Subject<'_>) -> Result<Outcome> {
+pub fn items_from_start(
+    caller: Caller<'_>,
+    question: &Value,
+    subject: Subject<'_>,
+) -> Result<Outcome> {
     let listing = Listing {
         subject,
         how: How::read(question)?,

@@ -33,26 +33,24 @@ mod values;
 mod writer;
 mod zones;
 
-use croner_rows::{Caller, Result, answer_lines, status};
+use croner_rows::{Caller, Result, status};
 use memory::answer_cases;
-use replay::Replay;
+use replay::replay_lines;
 use std::io::{BufWriter, Write};
 use std::process::ExitCode;
 use std::{env, io};
 
+// Replays standard input; whether each line was asked and gave the wanted answer.
 fn run(rt: &HostRuntime) -> Result<bool> {
     let mut out = BufWriter::new(rt.alloc(), rt.stdout())?;
-    let replay = Replay {
-        caller: Caller::new(rt),
-    };
-    let summary = answer_lines(rt, &replay, &mut out)?;
-    let (lines, differing, unsupported) = (summary.lines, summary.differing, summary.unsupported);
+    let counts = replay_lines(Caller::new(rt), &mut out)?;
+    let (lines, differing, unsupported) = (counts.lines, counts.differing, counts.unsupported);
     writeln!(
         out,
         "{lines} lines, {differing} differ, {unsupported} unsupported"
     )?;
     out.flush()?;
-    Ok(summary.is_clean())
+    Ok(differing == 0 && unsupported == 0)
 }
 
 // Whether the program's one word is `memory`.

@@ -4,8 +4,8 @@ use croner::errors::CronError;
 use croner::time::table::TableTime;
 use croner_backends::NarrowTime;
 use croner_rows::{
-    Caller, How, Job, Outcome, Result, Run, Runs, Subject, list, member, narrow_time, number_at, shown,
-    switch, table_of,
+    Caller, How, Job, Outcome, Result, Run, Runs, Subject, list, member, narrow_time, number_at,
+    shown, switch, table_of,
 };
 use serde_json::Value;
 use std::alloc::Global;

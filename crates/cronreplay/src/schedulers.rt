@@ -2,8 +2,8 @@
 
 use croner::Clocked;
 use croner_rows::{
-    Answer, Caller, Fault, FlakyJob, Named, Outcome, OverClocks, Result, call_in_turn,
-    call_scheduler, list, new_scheduler, over_clocks, standings,
+    Caller, Fault, FlakyJob, Named, Outcome, OverClocks, Result, call_in_turn, call_scheduler,
+    list, new_scheduler, over_clocks, standings,
 };
 use croner_scheduler::Scheduler;
 use serde_json::Value;
@@ -47,7 +47,7 @@ fn one_call<T: Clocked>(
     let calls = list(question, "after")?;
     let answers = call_in_turn(caller.without_marks(), scheduler, named, calls)?;
     let after = format!(in caller.alloc; "{is_same} {answers}");
-    Outcome::new(answer.map(Answer::Value), Ok(after?))
+    Outcome::new(answer, Ok(after?))
 }
 
 /// The answers of the calls of a question, on a scheduler that begins without jobs. With the member `call` that call's answer after

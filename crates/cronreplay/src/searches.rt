@@ -1,11 +1,12 @@
 //! Searches for runs from a start, and what a clock shows there.
 
+use croner::CompactCron;
+use croner::crontable::CronTable;
 use croner::errors::CronError;
-use croner::time::Direction;
-use croner::{CompactCron, crontable::CronTable};
+use croner::time::{CivilDateTime, Direction, Weekday};
 use croner_rows::{
-    Answer, Caller, Moment, Outcome, OverTime, Result, Run, Subject, bare_text, flag, number_at, over_time, shown,
-    time_and_job,
+    Caller, Moment, Outcome, OverTime, Result, Run, Subject, bare_text, flag, number_at, over_time,
+    shown, time_and_job,
 };
 use serde_json::Value;
 use std::alloc::Global;
@@ -30,7 +31,12 @@ impl Search {
     }
 
     /// The runs from a start on, nearest first. Where a search is refused, the refusal is the last item.
-    pub fn runs<T: Moment>(self, caller: Caller<'_>, searched: Searched<'_>, start: &T) -> Result<Value> {
+    pub fn runs<T: Moment>(
+        self,
+        caller: Caller<'_>,
+        searched: Searched<'_>,
+        start: &T,
+    ) -> Result<Value> {
         let mut last = None;
         let mut runs = Vec::new(caller.alloc);
         for _ in 0..self.count {
@@ -93,12 +99,17 @@ impl<'j> OverTime for Searching<'j> {
     fn outcome<T: Moment>(&self, caller: Caller<'_>, start: T) -> Result<Outcome> {
         let found = found(caller, self.search, self.subject, &start);
         let after = start_and_subject(caller.alloc, &start, self.subject);
-        Outcome::new(found.map(Answer::Value), after)
+        Outcome::new(found, after)
     }
 }
 
 // The runs of a subject; of a job if its form in few words has the same, or else those of both forms.
-fn found<T: Moment>(caller: Caller<'_>, search: Search, subject: Subject<'_>, start: &T) -> Result<Value> {
+fn found<T: Moment>(
+    caller: Caller<'_>,
+    search: Search,
+    subject: Subject<'_>,
+    start: &T,
+) -> Result<Value> {
     let found = search.runs(caller, Searched::Subject(subject), start)?;
     let Subject::Job(job) = subject else {
         return Ok(found);
@@ -119,7 +130,10 @@ fn start_and_subject<T: Moment>(alloc: Global, start: &T, subject: Subject<'_>) 
 }
 
 fn time_and_table<T: Moment>(alloc: Global, time: &T, table: &CronTable) -> Result<String> {
-    let (time, texts) = (bare_text(alloc, time)?, job_texts(alloc, table, table.len())?);
+    let (time, texts) = (
+        bare_text(alloc, time)?,
+        job_texts(alloc, table, table.len())?,
+    );
     Ok(format!(in alloc; "{time} {texts}")?)
 }
 
@@ -133,7 +147,12 @@ pub fn job_texts(alloc: Global, table: &CronTable, count: usize) -> Result<Value
 }
 
 /// Searches for runs of a subject from the start of a question, and afterwards the start and the subject.
-pub fn runs_from_start(caller: Caller<'_>, question: &Value, subject: Subject<'_>, direction: Direction) -> Result<Outcome> {
+pub fn runs_from_start(
+    caller: Caller<'_>,
+    question: &Value,
+    subject: Subject<'_>,
+    direction: Direction,
+) -> Result<Outcome> {
     let search = Search::read(question, direction)?;
     over_time(caller, question, &Searching { subject, search })
 }
@@ -148,14 +167,25 @@ impl OverTime for Reading {
         let (civil, weekday) = (time.to_civil(), time.civil_weekday());
         let same = time.cmp_instant(&time).is_eq();
         caller.end();
-        let weekday = weekday.num_days_from_sunday();
-        let text = format!(in caller.alloc; "[\"{civil}\",{weekday}]")?;
-        let answer = if same { text } else { String::new(caller.alloc) };
-        Outcome::new(Ok(Answer::Text(answer)), bare_text(caller.alloc, &time))
+        let answer = shown_reading(caller.alloc, civil, weekday, same);
+        Outcome::new(answer, bare_text(caller.alloc, &time))
     }
 }
 
-/// What the start of a question shows, and the weekday from Sunday. There is no answer where the start isn't the same instant as
+fn shown_reading(
+    alloc: Global,
+    civil: CivilDateTime,
+    weekday: Weekday,
+    same: bool,
+) -> Result<Value> {
+    if !same {
+        return Ok(Value::Null);
+    }
+    let weekday = Value::from(weekday.num_days_from_sunday());
+    shown::pair(alloc, Value::String(civil.to_string(alloc)?), weekday)
+}
+
+/// What the start of a question shows, and the weekday from Sunday. It is null where the start isn't the same instant as
 /// itself.
 pub fn shown_at_start(caller: Caller<'_>, question: &Value) -> Result<Outcome> {
     over_time(caller, question, &Reading)

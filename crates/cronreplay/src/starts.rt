@@ -2,7 +2,9 @@
 
 use croner::time::Direction;
 use croner::time::table::{ClockTable, TableTime};
-use croner_rows::{Caller, Fault, Result, direction, member, number, number_at, shown, table_of, text};
+use croner_rows::{
+    Caller, Fault, Result, direction, member, number, number_at, shown, table_of, text,
+};
 use crontab::line::{Dialect, Entry, Job, entry_of};
 use crontab_runs::{CrontabJob, Start, StartsEnd, next_starts_until};
 use serde_json::Value;

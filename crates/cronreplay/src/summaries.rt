@@ -1,7 +1,7 @@
 //! Summaries of jobs: their texts, and their data.
 
 use croner::errors::CronError;
-use croner_rows::{Answer, Caller, Fault, Job, Outcome, Result, shown, text};
+use croner_rows::{Caller, Fault, Job, Outcome, Result, shown, text};
 use croner_summary::{Summary, SummaryLanguage};
 use serde_json::Value;
 use std::alloc::Global;
@@ -23,7 +23,11 @@ fn summary_of(alloc: Global, question: &Value) -> Result<Summary> {
     Ok(Summary::of(alloc, &job.cron)?)
 }
 
-fn text_in(alloc: Global, summary: &Summary, language: &SummaryLanguage) -> Result<Value, CronError> {
+fn text_in(
+    alloc: Global,
+    summary: &Summary,
+    language: &SummaryLanguage,
+) -> Result<Value, CronError> {
     Ok(Value::String(summary.text(alloc, language)?))
 }
 
@@ -39,9 +43,9 @@ pub fn data(caller: Caller<'_>, question: &Value) -> Result<Outcome> {
     )
 }
 
-fn data_of(alloc: Global, summary: Result<Summary, CronError>) -> Result<Answer> {
+fn data_of(alloc: Global, summary: Result<Summary, CronError>) -> Result<Value> {
     let summary = summary?;
-    Ok(Answer::Value(Value::String(shown_data(alloc, &summary)?)))
+    Ok(Value::String(shown_data(alloc, &summary)?))
 }
 
 fn shown_data(alloc: Global, summary: &Summary) -> Result<String> {
@@ -58,7 +62,7 @@ pub fn call_of_summary(caller: Caller<'_>, question: &Value, call: &str) -> Resu
         "is_whole" => is_told_whole(caller, &summary, &language_of(question)?),
         _ => Err(Fault::Unsupported),
     };
-    Outcome::new(answer.map(Answer::Value), shown_data(caller.alloc, &summary))
+    Outcome::new(answer, shown_data(caller.alloc, &summary))
 }
 
 fn language_of(question: &Value) -> Result<SummaryLanguage> {
@@ -83,7 +87,11 @@ fn displayed(caller: Caller<'_>, summary: &Summary) -> Result<Value> {
     Ok(Value::String(text?))
 }
 
-fn is_told_whole(caller: Caller<'_>, summary: &Summary, language: &SummaryLanguage) -> Result<Value> {
+fn is_told_whole(
+    caller: Caller<'_>,
+    summary: &Summary,
+    language: &SummaryLanguage,
+) -> Result<Value> {
     caller.begin();
     let is_whole = summary.is_whole(caller.alloc, language);
     caller.end();

@@ -7,8 +7,7 @@ use croner::errors::CronError;
 use croner::laws::crontable::{next_table_runs, resume_table_after};
 use croner::time::Direction;
 use croner_rows::{
-    Answer, Caller, Fault, Job, Moment, Outcome, Result, Run, Runs, Table, civil_value, number_at,
-    shown,
+    Caller, Fault, Job, Moment, Outcome, Result, Run, Runs, Table, civil_value, number_at, shown,
 };
 use jiff::civil::DateTime;
 use serde_json::Value;
@@ -77,8 +76,8 @@ fn push_to(caller: Caller<'_>, table: &mut CronTable, job: Cron) -> Result<Outco
     Outcome::new(place_answer(place), Ok(after))
 }
 
-fn place_answer(place: Result<usize, CronError>) -> Result<Answer> {
-    Ok(Answer::Value(Value::from(place?)))
+fn place_answer(place: Result<usize, CronError>) -> Result<Value> {
+    Ok(Value::from(place?))
 }
 
 /// The text of the job that a change returns, those of the jobs then in the table, in order, and the places of the next run
@@ -89,7 +88,12 @@ pub fn change(caller: Caller<'_>, question: &Value) -> Result<Outcome> {
     changed(caller.alloc, question, &table.jobs, &out)
 }
 
-fn changed(alloc: Global, question: &Value, table: &CronTable, out: &Option<Job>) -> Result<Outcome> {
+fn changed(
+    alloc: Global,
+    question: &Value,
+    table: &CronTable,
+    out: &Option<Job>,
+) -> Result<Outcome> {
     let (out, jobs) = (job_text(alloc, out)?, job_texts(alloc, table, table.len())?);
     let next = next_places(alloc, question, table)?;
     let answer = format!(in alloc; "{{\"out\":{out},\"jobs\":{jobs},\"next\":{next}}}");

@@ -4,7 +4,7 @@ use croner::Cron;
 use croner::errors::CronError;
 use croner::parser::CronParser;
 use croner_rows::{
-    Answer, Caller, Job, Outcome, Result, are_alike, civil_value, member, new_component, read_parser, shown,
+    Caller, Job, Outcome, Result, are_alike, civil_value, member, new_component, read_parser, shown,
 };
 use jiff::civil::DateTime;
 use serde_json::Value;
@@ -18,7 +18,7 @@ pub fn new_field(caller: Caller<'_>, question: &Value) -> Result<Outcome> {
     let field = field?;
     let text = shown::field(caller.alloc, &field);
     drop(field);
-    Ok(Outcome::of(caller.alloc, text.map(Answer::Text)))
+    Ok(Outcome::of_value(caller.alloc, shown::json(caller.alloc, text?.as_bytes())?))
 }
 
 /// A parser built from settings: how it compares with a new one.
@@ -44,7 +44,7 @@ pub fn questions(caller: Caller<'_>, question: &Value) -> Result<Outcome> {
     Outcome::new(answer, shown::job(caller.alloc, &job.cron))
 }
 
-fn match_answer(caller: Caller<'_>, cron: &Cron, at: &DateTime) -> Result<Answer> {
+fn match_answer(caller: Caller<'_>, cron: &Cron, at: &DateTime) -> Result<Value> {
     let pattern = &cron.pattern;
     caller.begin();
     let matching = is_true(&cron.is_time_matching(at));
@@ -57,7 +57,7 @@ fn match_answer(caller: Caller<'_>, cron: &Cron, at: &DateTime) -> Result<Answer
     let text = format!(in caller.alloc;
         "[{matching},\"{kind}\",{shapes},{day},{weekday},{and},{same}]"
     );
-    Ok(Answer::Text(text?))
+    shown::object(caller.alloc, text)
 }
 
 fn is_true(answer: &Result<bool, CronError>) -> bool {

@@ -5,8 +5,8 @@ use crate::searches::{Search, Searched};
 use croner::time::table::{ClockTable, TableTime};
 use croner::time::{CronDateTime, Direction};
 use croner_rows::{
-    Caller, Fault, How, Job, Moment, Outcome, Result, Runs, Subject, Window, ZoneSource, items, list,
-    member, number, parts, shown, table_of, word,
+    Caller, Fault, How, Job, Moment, Outcome, Result, Runs, Subject, Window, ZoneSource, items,
+    list, member, number, parts, shown, table_of, word,
 };
 use jiff::tz::TimeZone;
 use jiff::{Timestamp, Zoned};
@@ -78,7 +78,12 @@ pub fn compare(caller: Caller<'_>, question: &Value) -> Result<Outcome> {
     Outcome::of_text(caller.alloc, text)
 }
 
-fn compare_over(caller: Caller<'_>, question: &Value, clock: &Value, zone: TimeZone<'_>) -> Result<Tally> {
+fn compare_over(
+    caller: Caller<'_>,
+    question: &Value,
+    clock: &Value,
+    zone: TimeZone<'_>,
+) -> Result<Tally> {
     let window = Window::read(member(clock, "window")?)?;
     let table = table_of(caller, clock)?;
     let clocks = Clocks {
@@ -137,7 +142,12 @@ fn compare_towards(
     (place, direction): (usize, Direction),
     tally: &mut Tally,
 ) -> Result<()> {
-    let by_table = runs(caller, asked, TableTime::new(clocks.table, asked.start)?, direction)?;
+    let by_table = runs(
+        caller,
+        asked,
+        TableTime::new(clocks.table, asked.start)?,
+        direction,
+    )?;
     let in_zone = Zoned::new(Timestamp::from_second(asked.start)?, clocks.zone);
     let in_zone = runs(caller, asked, in_zone, direction)?;
     let compared = well_in(clocks.window, items(&in_zone)?);
@@ -151,7 +161,12 @@ fn compare_towards(
 }
 
 // The runs from a time on, nearest first; what stands for none after them is no number.
-fn runs<T: Moment>(caller: Caller<'_>, asked: Asked<'_>, start: T, direction: Direction) -> Result<Value> {
+fn runs<T: Moment>(
+    caller: Caller<'_>,
+    asked: Asked<'_>,
+    start: T,
+    direction: Direction,
+) -> Result<Value> {
     let subject = Subject::Job(asked.job);
     match asked.kind.as_bool() {
         Some(inclusive) => {
