@@ -12,7 +12,6 @@ mod jobs;
 mod marks;
 mod members;
 mod moments;
-mod outcomes;
 mod pattern_calls;
 mod schedulers;
 pub mod shown;
@@ -34,12 +33,10 @@ pub use members::{
     text, three_numbers, weekday, word,
 };
 pub use moments::Moment;
-pub use outcomes::Outcome;
 pub use pattern_calls::{field_at, time_component};
 pub use schedulers::{Named, call_in_turn, call_scheduler, new_scheduler, standings};
 pub use subjects::{How, Run, Runs, Subject, Table};
-pub use texts::printed_text;
-pub use times::{bare_text, instants, time_and_job};
+pub use times::{add_time, add_time_and_job, instants};
 pub use zones::{Window, ZoneSource, read_rule, table_in_window};
 
 /// An answer, or why there is none.

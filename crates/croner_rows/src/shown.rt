@@ -251,3 +251,21 @@ pub fn job(alloc: Global, cron: &Cron) -> Result<String> {
     let kind = format!(in alloc; ",\"job_type\":\"{kind}\"")?;
     held_text(alloc, &cron.pattern, kind.as_str())
 }
+
+/// Adds what a field holds to a text.
+pub fn add_field(alloc: Global, component: &CronComponent, text: &mut String) -> Result<()> {
+    let held = field(alloc, component)?;
+    Ok(text.push_str(held.as_str())?)
+}
+
+/// Adds what a pattern holds to a text.
+pub fn add_pattern(alloc: Global, pattern: &CronPattern, text: &mut String) -> Result<()> {
+    let held = held_text(alloc, pattern, "")?;
+    Ok(text.push_str(held.as_str())?)
+}
+
+/// Adds what a job holds to a text.
+pub fn add_job(alloc: Global, cron: &Cron, text: &mut String) -> Result<()> {
+    let held = job(alloc, cron)?;
+    Ok(text.push_str(held.as_str())?)
+}

@@ -1,10 +1,10 @@
 //! Whose runs are asked for, those of a job or of a table of jobs: searches and iterators over them.
 
 use crate::{Caller, Fault, Job, Moment, Result, list, number_at, shown, text};
-use croner::CronIterator;
 use croner::crontable::{CronTable, CronTableIterator};
 use croner::errors::CronError;
 use croner::time::Direction;
+use croner::{Cron, CronIterator};
 use serde_json::Value;
 use std::alloc::Global;
 
@@ -238,12 +238,19 @@ fn change_jobs(
     by: Option<Job>,
 ) -> Result<Option<Job>> {
     match (change, by) {
-        ("replace", Some(by)) => Ok(jobs.replace(place, by.into_cron()).map(Job::new)),
-        ("remove", None) => Ok(jobs.remove(place).map(Job::new)),
+        ("replace", Some(by)) => Ok(job_out(jobs.replace(place, by.into_cron()))),
+        ("remove", None) => Ok(job_out(jobs.remove(place))),
         ("clear", None) => {
             jobs.clear();
             Ok(None)
         }
         _ => Err(Fault::Malformed),
+    }
+}
+
+fn job_out(cron: Option<Cron>) -> Option<Job> {
+    match cron {
+        Some(cron) => Some(Job::new(cron)),
+        None => None,
     }
 }

@@ -6,8 +6,8 @@ use croner::errors::CronError;
 use croner::time::Resolution;
 use croner::{Cron, CronComponent, CronPattern};
 use croner_rows::{
-    Caller, Fault, How, Job, Moment, Outcome, OverTime, Result, Runs, Subject, Table, bare_text,
-    instants, over_time, read_field, shown, text,
+    Caller, Fault, How, Job, Moment, OverTime, Result, Runs, Subject, Table, add_time, instants,
+    over_time, read_field, shown, text,
 };
 use serde_json::Value;
 use std::alloc::{AllocError, Global};
@@ -55,39 +55,57 @@ impl<T: Moment> Shown for Resolution<T> {
     }
 }
 
-fn copy_original<S: Shown>(caller: Caller<'_>, original: &S) -> Result<Outcome> {
+fn copy_original<S: Shown>(caller: Caller<'_>, original: &S, after: &mut String) -> Result<Value> {
     caller.begin();
     let copy: Result<S, AllocError> = original.clone();
     caller.end();
-    Outcome::new(shown_copy(caller.alloc, copy), original.text(caller.alloc))
+    let text = original.text(caller.alloc)?;
+    after.push_str(text.as_str())?;
+    shown_copy(caller.alloc, copy?)
 }
 
-fn shown_copy<S: Shown>(alloc: Global, copy: Result<S, AllocError>) -> Result<Value> {
-    let copy = copy?;
+fn shown_copy<S: Shown>(alloc: Global, copy: S) -> Result<Value> {
     let text = copy.text(alloc);
     drop(copy);
     Ok(Value::String(text?))
 }
 
 /// A copy, and afterwards what was copied. The kind is what follows `clone_of_` in the operation.
-pub fn clone_of(caller: Caller<'_>, question: &Value, kind: &str) -> Result<Outcome> {
+pub fn clone_of(
+    caller: Caller<'_>,
+    question: &Value,
+    kind: &str,
+    after: &mut String,
+) -> Result<Value> {
     match kind {
-        "field" => copy_original(caller, &read_field(caller.alloc, question)?),
-        "pattern" => copy_original(caller, &Job::read(caller.alloc, question)?.cron.pattern),
-        "job" => copy_original(caller, &Job::read(caller.alloc, question)?.cron),
-        "table" => copy_original(caller, &Table::read(caller.alloc, question)?.jobs),
-        "error" => error_clone(caller, question),
-        "time" => over_time(caller, question, &CopyOfTime),
-        "resolution" => over_time(caller, question, &CopyOfResolution),
-        "iterator" => iterator_clone(caller, question),
+        "field" => copy_original(caller, &read_field(caller.alloc, question)?, after),
+        "table" => copy_original(caller, &Table::read(caller.alloc, question)?.jobs, after),
+        "error" => error_clone(caller, question, after),
+        "time" => over_time(caller, question, &CopyOfTime, after),
+        "resolution" => over_time(caller, question, &CopyOfResolution, after),
+        kind => clone_of_job(caller, question, kind, after),
+    }
+}
+
+fn clone_of_job(
+    caller: Caller<'_>,
+    question: &Value,
+    kind: &str,
+    after: &mut String,
+) -> Result<Value> {
+    let job = Job::read(caller.alloc, question)?;
+    match kind {
+        "job" => copy_original(caller, &job.cron, after),
+        "pattern" => copy_original(caller, &job.cron.pattern, after),
+        "iterator" => over_time(caller, question, &CopyOfIterator(&job), after),
         _ => Err(Fault::Unsupported),
     }
 }
 
 // A copy of the refusal of a text: its message.
-fn error_clone(caller: Caller<'_>, question: &Value) -> Result<Outcome> {
+fn error_clone(caller: Caller<'_>, question: &Value, after: &mut String) -> Result<Value> {
     match Job::of_text(caller.alloc, question, text(question, "text")?) {
-        Err(Fault::Refused(error)) => copy_original(caller, &error),
+        Err(Fault::Refused(error)) => copy_original(caller, &error, after),
         Err(fault) => Err(fault),
         Ok(_) => Err(Fault::Malformed),
     }
@@ -98,20 +116,13 @@ fn error_clone(caller: Caller<'_>, question: &Value) -> Result<Outcome> {
 struct CopyOfTime;
 
 impl OverTime for CopyOfTime {
-    fn outcome<T: Moment>(&self, caller: Caller<'_>, time: T) -> Result<Outcome> {
+    fn answer<T: Moment>(&self, caller: Caller<'_>, time: T, after: &mut String) -> Result<Value> {
         caller.begin();
         let copy: Result<T, AllocError> = time.clone();
         caller.end();
-        Outcome::new(
-            shown_time(caller.alloc, copy),
-            bare_text(caller.alloc, &time),
-        )
+        add_time(caller.alloc, &time, after)?;
+        copy?.shown(caller.alloc)
     }
-}
-
-fn shown_time<T: Moment>(alloc: Global, time: Result<T, AllocError>) -> Result<Value> {
-    let time = time?;
-    time.shown(alloc)
 }
 
 // The instants of what a time shows, which are copied.
@@ -119,8 +130,9 @@ fn shown_time<T: Moment>(alloc: Global, time: Result<T, AllocError>) -> Result<V
 struct CopyOfResolution;
 
 impl OverTime for CopyOfResolution {
-    fn outcome<T: Moment>(&self, caller: Caller<'_>, time: T) -> Result<Outcome> {
-        copy_original(caller, &time.resolve_civil(caller.alloc, time.to_civil())?)
+    fn answer<T: Moment>(&self, caller: Caller<'_>, time: T, after: &mut String) -> Result<Value> {
+        let shown = time.resolve_civil(caller.alloc, time.to_civil())?;
+        copy_original(caller, &shown, after)
     }
 }
 
@@ -129,30 +141,26 @@ impl OverTime for CopyOfResolution {
 struct CopyOfIterator<'j>(&'j Job);
 
 impl<'j> OverTime for CopyOfIterator<'j> {
-    fn outcome<T: Moment>(&self, caller: Caller<'_>, start: T) -> Result<Outcome> {
+    fn answer<T: Moment>(&self, caller: Caller<'_>, start: T, after: &mut String) -> Result<Value> {
         let mut runs = Runs::new(Subject::Job(self.0), start, How::After)?;
         let _ = runs.next();
         caller.begin();
         let copy = runs.copied();
         caller.end();
-        let copy = copy_and_item(caller.alloc, copy);
-        Outcome::new(copy, fault_and_item(caller.alloc, &mut runs))
+        add_fault_and_item(caller.alloc, &mut runs, after)?;
+        let mut text = String::new(caller.alloc);
+        add_fault_and_item(caller.alloc, &mut copy?, &mut text)?;
+        Ok(Value::String(text))
     }
 }
 
-fn copy_and_item<T: Moment>(alloc: Global, copy: Result<Runs<'_, T>>) -> Result<Value> {
-    let mut runs = copy?;
-    Ok(Value::String(fault_and_item(alloc, &mut runs)?))
-}
-
-// The fault that an iterator keeps, and the item that it gives then.
-fn fault_and_item<T: Moment>(alloc: Global, runs: &mut Runs<'_, T>) -> Result<String> {
+// Adds the fault that an iterator keeps, and the item that it gives then.
+fn add_fault_and_item<T: Moment>(
+    alloc: Global,
+    runs: &mut Runs<'_, T>,
+    text: &mut String,
+) -> Result<()> {
     let fault = runs.fault_name();
     let item = runs.item(alloc)?;
-    Ok(format!(in alloc; "{fault} {item}")?)
-}
-
-fn iterator_clone(caller: Caller<'_>, question: &Value) -> Result<Outcome> {
-    let job = Job::read(caller.alloc, question)?;
-    over_time(caller, question, &CopyOfIterator(&job))
+    Ok(write!(text, "{fault} {item}")?)
 }

@@ -1,8 +1,7 @@
 //! Jobs as JSON: how they are printed, and whether they are read back.
 
 use croner::Cron;
-use croner::errors::CronError;
-use croner_rows::{Caller, Fault, Job, Outcome, Result, member, printed_text, shown};
+use croner_rows::{Caller, Fault, Job, Result, member, shown};
 use serde_json::Value;
 use std::alloc::Global;
 
@@ -14,22 +13,17 @@ pub fn json_again(alloc: Global, question: &Value) -> Result<Value> {
 
 /// A job's JSON as it is printed, and whether the parser of the question reads an equal job with the same text from its
 /// text; and the job afterwards.
-pub fn reread(caller: Caller<'_>, question: &Value) -> Result<Outcome> {
+pub fn reread(caller: Caller<'_>, question: &Value, after: &mut String) -> Result<Value> {
     let job = Job::read(caller.alloc, question)?;
     caller.begin();
     let json = job.cron.to_json();
     caller.end();
-    let answer = printed_and_read(caller.alloc, question, &job.cron, json);
-    Outcome::new(answer, shown::job(caller.alloc, &job.cron))
+    shown::add_job(caller.alloc, &job.cron, after)?;
+    printed_and_read(caller.alloc, question, &job.cron, &json?)
 }
 
-fn printed_and_read(
-    alloc: Global,
-    question: &Value,
-    cron: &Cron,
-    json: Result<Value, CronError>,
-) -> Result<Value> {
-    let json = Value::String(printed_text(alloc, &json?)?);
+fn printed_and_read(alloc: Global, question: &Value, cron: &Cron, json: &Value) -> Result<Value> {
+    let json = Value::String(json.to_string(alloc)?);
     let again = is_read_again(alloc, question, cron)?;
     let answer = format!(in alloc; "{{\"json\":{json},\"again\":{again}}}");
     shown::object(alloc, answer)

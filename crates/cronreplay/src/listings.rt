@@ -3,8 +3,8 @@
 use croner::CronIterator;
 use croner::time::Direction;
 use croner_rows::{
-    Caller, Fault, How, Job, Moment, Outcome, OverTime, Result, Runs, Subject, civil_value,
-    number_at, over_time, switch,
+    Caller, Fault, How, Job, Moment, OverTime, Result, Runs, Subject, civil_value, number_at,
+    over_time, switch,
 };
 use serde_json::Value;
 
@@ -48,14 +48,18 @@ struct Listing<'j> {
 
 // The iterator is made between marks, and again with memory if that was refused.
 impl<'j> OverTime for Listing<'j> {
-    fn outcome<T: Moment>(&self, caller: Caller<'_>, start: T) -> Result<Outcome> {
+    fn answer<T: Moment>(&self, caller: Caller<'_>, start: T, after: &mut String) -> Result<Value> {
         let again = start.clone()?;
         caller.begin();
         let made = Runs::new(self.subject, start, self.how);
         caller.end();
         match made {
-            Ok(mut runs) => self.items(caller, &mut runs, false),
-            Err(_) => self.items(caller, &mut Runs::new(self.subject, again, self.how)?, true),
+            Ok(mut runs) => self.items(caller, &mut runs, after),
+            Err(_) => {
+                let mut runs = Runs::new(self.subject, again, self.how)?;
+                let _ = self.items(caller, &mut runs, after)?;
+                Err(Fault::OutOfMemory)
+            }
         }
     }
 }
@@ -65,35 +69,31 @@ impl<'j> Listing<'j> {
         &self,
         caller: Caller<'_>,
         runs: &mut Runs<'j, T>,
-        is_refused: bool,
-    ) -> Result<Outcome> {
+        after: &mut String,
+    ) -> Result<Value> {
         if self.copied {
-            return items(caller, &mut runs.copied()?, self.counts, is_refused);
+            return items(caller, &mut runs.copied()?, self.counts, after);
         }
-        items(caller, runs, self.counts, is_refused)
+        items(caller, runs, self.counts, after)
     }
 }
 
-// The items of an iterator, or lack of memory if its making or one of its calls lacked it; afterwards all items, those after
+// The items of an iterator, or lack of memory if one of its calls lacked it; afterwards all items, those after
 // them, and the fault.
 fn items<T: Moment>(
     caller: Caller<'_>,
     runs: &mut Runs<'_, T>,
     counts: Counts,
-    is_refused: bool,
-) -> Result<Outcome> {
+    after: &mut String,
+) -> Result<Value> {
     for _ in 0..counts.before {
         let _ = runs.next();
     }
-    let mut lacked = is_refused;
+    let mut lacked = false;
     let items = next_items(caller, runs, counts.wanted, &mut lacked)?;
     let later = next_items(caller.without_marks(), runs, counts.after, &mut false)?;
     let fault = runs.fault_name();
-    let after = format!(in caller.alloc; "{items} {later} {fault}");
-    Outcome::new(items_or_lacking(items, lacked), Ok(after?))
-}
-
-fn items_or_lacking(items: Value, lacked: bool) -> Result<Value> {
+    write!(after, "{items} {later} {fault}")?;
     if lacked {
         return Err(Fault::OutOfMemory);
     }
@@ -135,22 +135,27 @@ pub fn items_from_start(
     caller: Caller<'_>,
     question: &Value,
     subject: Subject<'_>,
-) -> Result<Outcome> {
+    after: &mut String,
+) -> Result<Value> {
     let listing = Listing {
         subject,
         how: How::read(question)?,
         counts: Counts::read(question)?,
         copied: switch(question, "copied")?,
     };
-    over_time(caller, question, &listing)
+    over_time(caller, question, &listing, after)
 }
 
 /// The items of an iterator that takes over its job, which takes no memory in civil time.
-pub fn items_of_taken_job(caller: Caller<'_>, question: &Value) -> Result<Outcome> {
+pub fn items_of_taken_job(
+    caller: Caller<'_>,
+    question: &Value,
+    after: &mut String,
+) -> Result<Value> {
     let (start, counts) = (civil_value(question, "start")?, Counts::read(question)?);
     let cron = Job::read(caller.alloc, question)?.into_cron();
     caller.begin();
     let iterator = CronIterator::new(cron, start, false, Direction::Forward);
     caller.end();
-    items(caller, &mut Runs::OfJob(iterator), counts, false)
+    items(caller, &mut Runs::OfJob(iterator), counts, after)
 }

@@ -4,14 +4,14 @@ use croner::errors::CronError;
 use croner::time::table::TableTime;
 use croner_backends::NarrowTime;
 use croner_rows::{
-    Caller, How, Job, Outcome, Result, Run, Runs, Subject, list, member, narrow_time, number_at,
-    shown, switch, table_of,
+    Caller, How, Job, Result, Run, Runs, Subject, list, member, narrow_time, number_at, shown,
+    switch, table_of,
 };
 use serde_json::Value;
 use std::alloc::Global;
 
 /// The answer for each two bounds; if the question says `once`, each answer once.
-pub fn as_bounds_move(caller: Caller<'_>, question: &Value) -> Result<Outcome> {
+pub fn as_bounds_move(caller: Caller<'_>, question: &Value) -> Result<Value> {
     let alloc = caller.alloc;
     let job = Job::read(alloc, question)?;
     let (how, once) = (How::read(question)?, switch(question, "once")?);
@@ -25,7 +25,7 @@ pub fn as_bounds_move(caller: Caller<'_>, question: &Value) -> Result<Outcome> {
             answers.push(answer)?;
         }
     }
-    Ok(Outcome::of_value(alloc, Value::Array(answers)))
+    Ok(Value::Array(answers))
 }
 
 // A search's answer if an iterator gives the same, or else both. An iterator that keeps a fault gives it again.

@@ -70,14 +70,10 @@ fn difference(caller: Caller<'_>, line: &[u8]) -> Result<Option<String>> {
 
 // The answer of a question; if the library refuses it, the refusal.
 fn answer(caller: Caller<'_>, question: &Value) -> Result<Value> {
-    match answer_of_calls(caller, question) {
+    match make_calls(caller, question, &mut String::new(caller.alloc)) {
         Err(Fault::Refused(error)) => refusal_wanted(caller.alloc, question, &error),
         answered => answered,
     }
-}
-
-fn answer_of_calls(caller: Caller<'_>, question: &Value) -> Result<Value> {
-    make_calls(caller, question)?.into_value()
 }
 
 // Whether an answer is the wanted one. A `stderr` that is wanted with a space at its end says only how it begins.

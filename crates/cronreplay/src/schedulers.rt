@@ -2,8 +2,8 @@
 
 use croner::Clocked;
 use croner_rows::{
-    Caller, Fault, FlakyJob, Named, Outcome, OverClocks, Result, call_in_turn, call_scheduler,
-    list, new_scheduler, over_clocks, standings,
+    Caller, Fault, FlakyJob, Named, OverClocks, Result, call_in_turn, call_scheduler, list,
+    new_scheduler, over_clocks, standings,
 };
 use croner_scheduler::Scheduler;
 use serde_json::Value;
@@ -15,7 +15,12 @@ struct Calls<'q> {
 }
 
 impl<'q> OverClocks for Calls<'q> {
-    fn outcome<T: Clocked>(&self, caller: Caller<'_>, clocks: &[T]) -> Result<Outcome> {
+    fn answer<T: Clocked>(
+        &self,
+        caller: Caller<'_>,
+        clocks: &[T],
+        after: &mut String,
+    ) -> Result<Value> {
         let (patterns, calls) = (
             list(self.question, "patterns")?,
             list(self.question, "calls")?,
@@ -24,8 +29,8 @@ impl<'q> OverClocks for Calls<'q> {
         let named = Named { patterns, clocks };
         let answers = call_in_turn(caller.without_marks(), &mut scheduler, &named, calls)?;
         match self.question.get("call") {
-            None => Ok(Outcome::of_value(caller.alloc, answers)),
-            Some(call) => one_call(caller, &mut scheduler, &named, call, self.question),
+            None => Ok(answers),
+            Some(call) => one_call(caller, &mut scheduler, &named, (call, self.question), after),
         }
     }
 }
@@ -34,9 +39,9 @@ fn one_call<T: Clocked>(
     caller: Caller<'_>,
     scheduler: &mut Scheduler<FlakyJob, T>,
     named: &Named<'_, T>,
-    call: &Value,
-    question: &Value,
-) -> Result<Outcome> {
+    (call, question): (&Value, &Value),
+    after: &mut String,
+) -> Result<Value> {
     let before = standings(caller.alloc, scheduler)?;
     let answer = call_scheduler(caller, scheduler, named, call);
     let mut is_same = true;
@@ -46,13 +51,13 @@ fn one_call<T: Clocked>(
     }
     let calls = list(question, "after")?;
     let answers = call_in_turn(caller.without_marks(), scheduler, named, calls)?;
-    let after = format!(in caller.alloc; "{is_same} {answers}");
-    Outcome::new(answer, Ok(after?))
+    write!(after, "{is_same} {answers}")?;
+    answer
 }
 
 /// The answers of the calls of a question, on a scheduler that begins without jobs. With the member `call` that call's answer after
 /// them. Afterwards whether a call that lacked memory left each job as it was, and what the calls `after` answer, once it was made
 /// again with memory.
-pub fn scheduler(caller: Caller<'_>, question: &Value) -> Result<Outcome> {
-    over_clocks(caller, question, &Calls { question })
+pub fn scheduler(caller: Caller<'_>, question: &Value, after: &mut String) -> Result<Value> {
+    over_clocks(caller, question, &Calls { question }, after)
 }

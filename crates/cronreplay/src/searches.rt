@@ -3,10 +3,10 @@
 use croner::CompactCron;
 use croner::crontable::CronTable;
 use croner::errors::CronError;
-use croner::time::{CivilDateTime, Direction, Weekday};
+use croner::time::Direction;
 use croner_rows::{
-    Caller, Moment, Outcome, OverTime, Result, Run, Subject, bare_text, flag, number_at, over_time,
-    shown, time_and_job,
+    Caller, Job, Moment, OverTime, Result, Run, Subject, add_time, add_time_and_job, flag,
+    number_at, over_time, shown,
 };
 use serde_json::Value;
 use std::alloc::Global;
@@ -96,10 +96,10 @@ struct Searching<'j> {
 }
 
 impl<'j> OverTime for Searching<'j> {
-    fn outcome<T: Moment>(&self, caller: Caller<'_>, start: T) -> Result<Outcome> {
+    fn answer<T: Moment>(&self, caller: Caller<'_>, start: T, after: &mut String) -> Result<Value> {
         let found = found(caller, self.search, self.subject, &start);
-        let after = start_and_subject(caller.alloc, &start, self.subject);
-        Outcome::new(found, after)
+        add_start_and_subject(caller.alloc, &start, self.subject, after)?;
+        found
     }
 }
 
@@ -111,30 +111,41 @@ fn found<T: Moment>(
     start: &T,
 ) -> Result<Value> {
     let found = search.runs(caller, Searched::Subject(subject), start)?;
-    let Subject::Job(job) = subject else {
-        return Ok(found);
-    };
+    match subject {
+        Subject::Job(job) => compared(caller.without_marks(), search, job, start, found),
+        Subject::Table(_) => Ok(found),
+    }
+}
+
+fn compared<T: Moment>(
+    caller: Caller<'_>,
+    search: Search,
+    job: &Job,
+    start: &T,
+    found: Value,
+) -> Result<Value> {
     let compact = CompactCron::of(caller.alloc, &job.cron)?;
-    let found_compactly = search.runs(caller.without_marks(), Searched::Compact(&compact), start)?;
+    let found_compactly = search.runs(caller, Searched::Compact(&compact), start)?;
     if found_compactly == found {
         return Ok(found);
     }
     shown::pair(caller.alloc, found, found_compactly)
 }
 
-fn start_and_subject<T: Moment>(alloc: Global, start: &T, subject: Subject<'_>) -> Result<String> {
+fn add_start_and_subject<T: Moment>(
+    alloc: Global,
+    start: &T,
+    subject: Subject<'_>,
+    text: &mut String,
+) -> Result<()> {
     match subject {
-        Subject::Job(job) => time_and_job(alloc, start, job),
-        Subject::Table(table) => time_and_table(alloc, start, table),
+        Subject::Job(job) => add_time_and_job(alloc, start, job, text),
+        Subject::Table(table) => {
+            add_time(alloc, start, text)?;
+            let texts = job_texts(alloc, table, table.len())?;
+            Ok(write!(text, " {texts}")?)
+        }
     }
-}
-
-fn time_and_table<T: Moment>(alloc: Global, time: &T, table: &CronTable) -> Result<String> {
-    let (time, texts) = (
-        bare_text(alloc, time)?,
-        job_texts(alloc, table, table.len())?,
-    );
-    Ok(format!(in alloc; "{time} {texts}")?)
 }
 
 /// The texts of the first jobs of a table, in order.
@@ -152,9 +163,10 @@ pub fn runs_from_start(
     question: &Value,
     subject: Subject<'_>,
     direction: Direction,
-) -> Result<Outcome> {
+    after: &mut String,
+) -> Result<Value> {
     let search = Search::read(question, direction)?;
-    over_time(caller, question, &Searching { subject, search })
+    over_time(caller, question, &Searching { subject, search }, after)
 }
 
 // What a time shows.
@@ -162,31 +174,23 @@ pub fn runs_from_start(
 struct Reading;
 
 impl OverTime for Reading {
-    fn outcome<T: Moment>(&self, caller: Caller<'_>, time: T) -> Result<Outcome> {
+    fn answer<T: Moment>(&self, caller: Caller<'_>, time: T, after: &mut String) -> Result<Value> {
         caller.begin();
         let (civil, weekday) = (time.to_civil(), time.civil_weekday());
         let same = time.cmp_instant(&time).is_eq();
         caller.end();
-        let answer = shown_reading(caller.alloc, civil, weekday, same);
-        Outcome::new(answer, bare_text(caller.alloc, &time))
+        add_time(caller.alloc, &time, after)?;
+        if !same {
+            return Ok(Value::Null);
+        }
+        let weekday = weekday.num_days_from_sunday();
+        let text = format!(in caller.alloc; "[\"{civil}\",{weekday}]");
+        shown::object(caller.alloc, text)
     }
-}
-
-fn shown_reading(
-    alloc: Global,
-    civil: CivilDateTime,
-    weekday: Weekday,
-    same: bool,
-) -> Result<Value> {
-    if !same {
-        return Ok(Value::Null);
-    }
-    let weekday = Value::from(weekday.num_days_from_sunday());
-    shown::pair(alloc, Value::String(civil.to_string(alloc)?), weekday)
 }
 
 /// What the start of a question shows, and the weekday from Sunday. It is null where the start isn't the same instant as
 /// itself.
-pub fn shown_at_start(caller: Caller<'_>, question: &Value) -> Result<Outcome> {
-    over_time(caller, question, &Reading)
+pub fn shown_at_start(caller: Caller<'_>, question: &Value, after: &mut String) -> Result<Value> {
+    over_time(caller, question, &Reading, after)
 }

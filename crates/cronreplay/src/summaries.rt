@@ -1,10 +1,10 @@
 //! Summaries of jobs: their texts, and their data.
 
 use croner::errors::CronError;
-use croner_rows::{Caller, Fault, Job, Outcome, Result, shown, text};
+use croner_rows::{Caller, Fault, Job, Result, shown, text};
 use croner_summary::{Summary, SummaryLanguage};
 use serde_json::Value;
-use std::alloc::Global;
+use std::alloc::{AllocError, Global};
 
 /// The texts of the summary of a job in both languages, and whether they leave nothing out.
 pub fn summary(alloc: Global, question: &Value) -> Result<Value> {
@@ -32,29 +32,29 @@ fn text_in(
 }
 
 /// The summary of a job, as data, and the job afterwards.
-pub fn data(caller: Caller<'_>, question: &Value) -> Result<Outcome> {
+pub fn data(caller: Caller<'_>, question: &Value, after: &mut String) -> Result<Value> {
     let job = Job::read(caller.alloc, question)?;
     caller.begin();
     let summary = Summary::of(caller.alloc, &job.cron);
     caller.end();
-    Outcome::new(
-        data_of(caller.alloc, summary),
-        shown::job(caller.alloc, &job.cron),
-    )
+    shown::add_job(caller.alloc, &job.cron, after)?;
+    let mut text = String::new(caller.alloc);
+    add_data(&summary?, &mut text)?;
+    Ok(Value::String(text))
 }
 
-fn data_of(alloc: Global, summary: Result<Summary, CronError>) -> Result<Value> {
-    let summary = summary?;
-    Ok(Value::String(shown_data(alloc, &summary)?))
-}
-
-fn shown_data(alloc: Global, summary: &Summary) -> Result<String> {
-    Ok(format!(in alloc; "{summary:?}")?)
+fn add_data(summary: &Summary, text: &mut String) -> Result<(), AllocError> {
+    write!(text, "{summary:?}")
 }
 
 /// What a call of a summary answers: its text in a language, that it is shown with, or whether the text in a language leaves nothing
 /// out; and the summary afterwards.
-pub fn call_of_summary(caller: Caller<'_>, question: &Value, call: &str) -> Result<Outcome> {
+pub fn call_of_summary(
+    caller: Caller<'_>,
+    question: &Value,
+    call: &str,
+    after: &mut String,
+) -> Result<Value> {
     let summary = summary_of(caller.alloc, question)?;
     let answer = match call {
         "text" => told(caller, &summary, &language_of(question)?),
@@ -62,7 +62,8 @@ pub fn call_of_summary(caller: Caller<'_>, question: &Value, call: &str) -> Resu
         "is_whole" => is_told_whole(caller, &summary, &language_of(question)?),
         _ => Err(Fault::Unsupported),
     };
-    Outcome::new(answer, shown_data(caller.alloc, &summary))
+    add_data(&summary, after)?;
+    answer
 }
 
 fn language_of(question: &Value) -> Result<SummaryLanguage> {

@@ -7,7 +7,7 @@ use croner::errors::CronError;
 use croner::laws::crontable::{next_table_runs, resume_table_after};
 use croner::time::Direction;
 use croner_rows::{
-    Caller, Fault, Job, Moment, Outcome, Result, Run, Runs, Table, civil_value, number_at, shown,
+    Caller, Fault, Job, Moment, Result, Run, Runs, Table, civil_value, number_at, shown,
 };
 use jiff::civil::DateTime;
 use serde_json::Value;
@@ -15,12 +15,12 @@ use std::alloc::Global;
 
 /// How many jobs a table has, and how many bytes their texts have in total; whether it is empty, and whether a new one is; the text of
 /// the job at a place, or null; and whether an iterator over it has a fault from the beginning.
-pub fn place(caller: Caller<'_>, question: &Value) -> Result<Outcome> {
+pub fn place(caller: Caller<'_>, question: &Value) -> Result<Value> {
     let table = Table::read(caller.alloc, question)?;
     held_at(caller, &table.jobs, number_at(question, "place")?)
 }
 
-fn held_at(caller: Caller<'_>, table: &CronTable, place: usize) -> Result<Outcome> {
+fn held_at(caller: Caller<'_>, table: &CronTable, place: usize) -> Result<Value> {
     caller.begin();
     let is_new_empty = CronTable::new(caller.alloc).is_empty();
     let (count, is_empty, job) = (table.len(), table.is_empty(), table.get(place));
@@ -33,7 +33,7 @@ fn held_at(caller: Caller<'_>, table: &CronTable, place: usize) -> Result<Outcom
     let answer = format!(in caller.alloc;
         "{{\"count\":{count},\"bytes\":{bytes},\"is_empty\":{is_empty},\"is_new_empty\":{is_new_empty},\"text\":{text},\"faults\":{faults}}}"
     );
-    Outcome::of_text(caller.alloc, answer)
+    shown::object(caller.alloc, answer)
 }
 
 fn bytes_of(table: &CronTable) -> usize {
@@ -58,13 +58,18 @@ fn has_fault<T: Moment>(runs: &CronTableIterator<'_, T>) -> bool {
 
 /// One more job in a table, that of `text`. Afterwards the texts of the jobs that were there before, and whether there are as many jobs
 /// as the answer says.
-pub fn push(caller: Caller<'_>, question: &Value) -> Result<Outcome> {
+pub fn push(caller: Caller<'_>, question: &Value, after: &mut String) -> Result<Value> {
     let mut table = Table::read(caller.alloc, question)?;
     let job = Job::read(caller.alloc, question)?.into_cron();
-    push_to(caller, &mut table.jobs, job)
+    push_to(caller, &mut table.jobs, job, after)
 }
 
-fn push_to(caller: Caller<'_>, table: &mut CronTable, job: Cron) -> Result<Outcome> {
+fn push_to(
+    caller: Caller<'_>,
+    table: &mut CronTable,
+    job: Cron,
+    after: &mut String,
+) -> Result<Value> {
     let before = table.len();
     caller.begin();
     let place = table.push(job);
@@ -72,32 +77,23 @@ fn push_to(caller: Caller<'_>, table: &mut CronTable, job: Cron) -> Result<Outco
     let more = table.len() - before.min(table.len());
     let is_told = more == usize::from(place.is_ok());
     let texts = job_texts(caller.alloc, table, before)?;
-    let after = format!(in caller.alloc; "{texts} {is_told}")?;
-    Outcome::new(place_answer(place), Ok(after))
-}
-
-fn place_answer(place: Result<usize, CronError>) -> Result<Value> {
+    write!(after, "{texts} {is_told}")?;
     Ok(Value::from(place?))
 }
 
 /// The text of the job that a change returns, those of the jobs then in the table, in order, and the places of the next run
 /// after a start.
-pub fn change(caller: Caller<'_>, question: &Value) -> Result<Outcome> {
+pub fn change(caller: Caller<'_>, question: &Value) -> Result<Value> {
     let mut table = Table::read(caller.alloc, question)?;
     let out = table.change(caller, question)?;
     changed(caller.alloc, question, &table.jobs, &out)
 }
 
-fn changed(
-    alloc: Global,
-    question: &Value,
-    table: &CronTable,
-    out: &Option<Job>,
-) -> Result<Outcome> {
+fn changed(alloc: Global, question: &Value, table: &CronTable, out: &Option<Job>) -> Result<Value> {
     let (out, jobs) = (job_text(alloc, out)?, job_texts(alloc, table, table.len())?);
     let next = next_places(alloc, question, table)?;
     let answer = format!(in alloc; "{{\"out\":{out},\"jobs\":{jobs},\"next\":{next}}}");
-    Outcome::of_text(alloc, answer)
+    shown::object(alloc, answer)
 }
 
 fn job_text(alloc: Global, job: &Option<Job>) -> Result<Value> {

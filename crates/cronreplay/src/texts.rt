@@ -4,13 +4,13 @@ use croner::Cron;
 use croner::errors::CronError;
 use croner::parser::CronParser;
 use croner_rows::{
-    Caller, Job, Outcome, Result, are_alike, civil_value, member, new_component, read_parser, shown,
+    Caller, Job, Result, are_alike, civil_value, member, new_component, read_parser, shown,
 };
 use jiff::civil::DateTime;
 use serde_json::Value;
 
 /// A new field.
-pub fn new_field(caller: Caller<'_>, question: &Value) -> Result<Outcome> {
+pub fn new_field(caller: Caller<'_>, question: &Value) -> Result<Value> {
     let new = member(question, "new")?;
     caller.begin();
     let field = new_component(caller.alloc, new);
@@ -18,30 +18,30 @@ pub fn new_field(caller: Caller<'_>, question: &Value) -> Result<Outcome> {
     let field = field?;
     let text = shown::field(caller.alloc, &field);
     drop(field);
-    Ok(Outcome::of_value(caller.alloc, shown::json(caller.alloc, text?.as_bytes())?))
+    shown::json(caller.alloc, text?.as_bytes())
 }
 
 /// A parser built from settings: how it compares with a new one.
-pub fn parser(caller: Caller<'_>, question: &Value) -> Result<Outcome> {
+pub fn parser(caller: Caller<'_>, question: &Value) -> Result<Value> {
     caller.begin();
     let built = read_parser(question);
     let new = CronParser::new();
     caller.end();
-    let order = shown::ordering(built?.cmp(&new));
-    Ok(Outcome::of_value(caller.alloc, shown::text(caller.alloc, order)?))
+    shown::text(caller.alloc, shown::ordering(built?.cmp(&new)))
 }
 
 /// Questions about a job and a date and time that take no memory: whether the job names it, the kind of job, whether the fields
 /// have their shapes, and the three flags. Also whether the pattern is equal to itself, has the same hash and has the job's
 /// text. Then both day fields must match.
-pub fn questions(caller: Caller<'_>, question: &Value) -> Result<Outcome> {
+pub fn questions(caller: Caller<'_>, question: &Value, after: &mut String) -> Result<Value> {
     let at = civil_value(question, "at")?;
     let mut job = Job::read(caller.alloc, question)?;
     let answer = match_answer(caller, &job.cron, &at);
     caller.begin();
     job.cron.pattern.set_flags(false, false, true);
     caller.end();
-    Outcome::new(answer, shown::job(caller.alloc, &job.cron))
+    shown::add_job(caller.alloc, &job.cron, after)?;
+    answer
 }
 
 fn match_answer(caller: Caller<'_>, cron: &Cron, at: &DateTime) -> Result<Value> {

@@ -5,8 +5,8 @@ use crate::searches::{Search, Searched};
 use croner::time::table::{ClockTable, TableTime};
 use croner::time::{CronDateTime, Direction};
 use croner_rows::{
-    Caller, Fault, How, Job, Moment, Outcome, Result, Runs, Subject, Window, ZoneSource, items,
-    list, member, number, parts, shown, table_of, word,
+    Caller, Fault, How, Job, Moment, Result, Runs, Subject, Window, ZoneSource, items, list,
+    member, number, parts, shown, table_of, word,
 };
 use jiff::tz::TimeZone;
 use jiff::{Timestamp, Zoned};
@@ -17,13 +17,13 @@ use std::alloc::Global;
 const MARGIN_SECONDS: i64 = 180_000;
 
 /// What the clock of a table shows at each of a list of seconds.
-pub fn readings(caller: Caller<'_>, question: &Value) -> Result<Outcome> {
+pub fn readings(caller: Caller<'_>, question: &Value) -> Result<Value> {
     let table = table_of(caller, member(question, "zone")?)?;
     let mut readings = Vec::new(caller.alloc);
     for second in list(question, "seconds")? {
         readings.push(reading(caller.alloc, &table, number(second)?)?)?;
     }
-    Ok(Outcome::of_value(caller.alloc, Value::Array(readings)))
+    Ok(Value::Array(readings))
 }
 
 fn reading(alloc: Global, table: &ClockTable, second: i64) -> Result<Value> {
@@ -69,13 +69,13 @@ struct Tally {
 
 /// Asks each question of a list in both directions, over the table of a zone and in the zone. Gives how many runs of the zone
 /// lie well in the window, and each difference: the place in the list, whether forward, and both lists of runs.
-pub fn compare(caller: Caller<'_>, question: &Value) -> Result<Outcome> {
+pub fn compare(caller: Caller<'_>, question: &Value) -> Result<Value> {
     let clock = member(question, "zone")?;
     let source = ZoneSource::read(caller.rt, clock)?;
     let tally = compare_over(caller, question, clock, source.zone())?;
     let (runs, differences) = (tally.runs, tally.differences.as_str());
     let text = format!(in caller.alloc; "{{\"runs\":{runs},\"differences\":[{differences}]}}");
-    Outcome::of_text(caller.alloc, text)
+    shown::object(caller.alloc, text)
 }
 
 fn compare_over(
