@@ -10,7 +10,7 @@ from pathlib import Path
 TOP = Path(__file__).resolve().parent.parent
 BEGIN = re.compile(r"<!-- printed by tools/(\w+) -->")
 END = "<!-- end of what it prints -->"
-TESTS = {"croner_backends", "croner_rows", "cronreplay", "cronzones", "cronmemory", "cronbench", "croner_examples"}
+TESTS = {"croner_backends", "croner_rows", "cronreplay", "cronbench", "croner_examples"}
 ITEM = re.compile(r"\s*(pub )?(?:pub\(\w+\) )?(?:const |unsafe )*(fn|struct|enum|trait|impl|mod)\b(.*)")
 
 

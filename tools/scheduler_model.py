@@ -72,7 +72,7 @@ def window_of(second):
 
 @functools.cache
 def clock_of(name, second):
-    """The clock of a zone about a second: of a file of cronzones, or of a rule."""
+    """The clock of a zone about a second: of a file of cronreplay, or of a rule."""
     source = zone_rows.of_file(name) if (zone_rows.DATA / name).is_file() else zone_rows.of_rule(name)
     return zone_rows.table(source, *window_of(second))
 

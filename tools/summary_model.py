@@ -1,17 +1,18 @@
 #!/usr/bin/env python3
 """Holds the data and the texts of summaries against the fields of their patterns, which it reads by itself.
 
-    tools/summary_model.py patterns SEED COUNT        makes up patterns, a line each
-    tools/summary_model.py pairs SEED COUNT           makes up pairs of patterns that differ little, a line each pattern
+    tools/summary_model.py patterns SEED COUNT        makes up patterns
+    tools/summary_model.py pairs SEED COUNT           makes up pairs of patterns that differ little
     tools/summary_model.py modifiers SEED COUNT       makes up patterns of days with W, # and L, of which many are in a row or at a step
     tools/summary_model.py hostile                    patterns whose fields are as long as they can be
-    PROGRAM data <FILE | tools/summary_model.py judge what the data name, and their form
-    PROGRAM <FILE | tools/summary_model.py texts      that no two English texts that tell all are equal where what the patterns
+    PROGRAM <FILE | tools/summary_model.py judge FILE what the data name, and their form
+    PROGRAM <FILE | tools/summary_model.py texts FILE that no two English texts that tell all are equal where what the patterns
                                                       name differs
-    PROGRAM <FILE | tools/summary_model.py lengths    which English texts are longer than those of cronstrue, which is asked by
+    tools/summary_model.py lengths FILE               which English texts are longer than those of cronstrue, which is asked by
                                                       node (Debian: node-cronstrue)
 
-PROGRAM is the program `cronsummary`. Its lines have a pattern, its texts, whether these tell all, and with an argument the data.
+PROGRAM is the program `cronreplay`. What is made up are lines of it: of each pattern its texts, and whether these tell all; but of
+`pairs` its data too. `lengths` takes the texts that the lines want, as those of `crates/cronreplay/stdin`.
 `judge` works out what the fields name from the pattern's own characters (`model.Field`), and what the data name from the
 meaning that the crate's documentation gives each phrase; the days of the 28 kinds of month, each by itself. It also looks at
 the data's form: a step of a whole field divides it, a list names no value twice, three values in a row are a range, and values go
@@ -400,38 +401,57 @@ def fault_of(text, data):
     return wrong + [fault for fault in [told.fault()] if fault]
 
 
-def judge(lines):
-    read = differ = longest = cut = 0
+def texts_of(lines):
+    """Of each line that asks for texts or data the pattern, with `and ` before it where both day fields have to match, and the question."""
     for line in lines:
-        text, *rest = line.rstrip("\n").split("\t")
-        if rest[0].startswith("refused"):
-            continue
-        read += 1
-        longest = max(longest, len(rest[0].encode()))
-        cut += rest[2] == "cut"
-        faults = fault_of(text, rest[3])
-        if faults:
-            differ += 1
-            print(f"{text}: {', '.join(faults)}: {rest[3]}")
-    print(f"{read} lines, the longest English text has {longest} bytes, {cut} are cut, {differ} differ")
+        question = json.loads(line)
+        if question["op"] in ("summary", "summary_data"):
+            both = question.get("settings", {}).get("dom_and_dow", False)
+            yield ("and " if both else "") + question["text"], question
+
+
+def answered(lines, printed):
+    """Each of these with what the program printed of it."""
+    got = {}
+    for line in printed:
+        number = re.fullmatch(r"line (\d+): got (.*), want null\n?", line)
+        if number:
+            got[int(number[1])] = json.loads(number[2])
+    for number, (pattern, question) in enumerate(texts_of(lines), 1):
+        yield pattern, question["op"], got.get(number)
+
+
+def judge(lines, printed):
+    read = differ = longest = cut = 0
+    for pattern, op, answer in answered(lines, printed):
+        if isinstance(answer, dict):
+            longest = max(longest, len(answer["english"].encode()))
+            cut += not answer["whole"]
+        elif op == "summary_data" and (answer or "").startswith("Summary"):
+            read += 1
+            faults = fault_of(pattern, answer)
+            if faults:
+                differ += 1
+                print(f"{pattern}: {', '.join(faults)}: {answer}")
+    print(f"{read} patterns, the longest English text has {longest} bytes, {cut} are cut, {differ} differ")
     return differ == 0
 
 
-def judge_texts(lines):
+def judge_texts(lines, printed):
     read = equal = differ = 0
     patterns = {}
-    for line in lines:
-        pattern, *rest = line.rstrip("\n").split("\t")
-        if len(rest) < 3 or rest[2] != "whole" or rest[0].startswith("Never"):
+    for pattern, _, answer in answered(lines, printed):
+        if not isinstance(answer, dict) or not answer["whole"] or answer["english"].startswith("Never"):
             continue
         read += 1
-        other = patterns.setdefault(rest[0], pattern)
+        text = answer["english"]
+        other = patterns.setdefault(text, pattern)
         if other != pattern:
             equal += 1
             if schedule_of(other) != schedule_of(pattern):
                 differ += 1
-                print(f"one text, two schedules: {other} and {pattern}: {rest[0]}")
-    print(f"{read} lines, {len(patterns)} texts, {equal} equal texts of two patterns, {differ} differ")
+                print(f"one text, two schedules: {other} and {pattern}: {text}")
+    print(f"{read} patterns, {len(patterns)} texts, {equal} equal texts of two patterns, {differ} differ")
     return differ == 0
 
 
@@ -455,7 +475,7 @@ def as_cronstrue_has_it(pattern):
 
 
 def judge_lengths(lines):
-    told = [line.rstrip("\n").split("\t")[:2] for line in lines]
+    told = [(pattern, question["want"]["english"]) for pattern, question in texts_of(lines)]
     asked = json.dumps([as_cronstrue_has_it(pattern) for pattern, _ in told])
     answer = subprocess.run(["node", "-e", CRONSTRUE], input=asked, capture_output=True, text=True, check=True)
     others = json.loads(answer.stdout)
@@ -466,23 +486,31 @@ def judge_lengths(lines):
     return not longer
 
 
+def print_lines(text, ops):
+    """Prints a pattern as lines that ask for its texts, and for its data."""
+    settings = {"settings": {"dom_and_dow": True}} if text.startswith("and ") else {}
+    for op in ops:
+        print(json.dumps({"op": op, "text": text.removeprefix("and "), **settings, "want": None}))
+
+
 def main(words):
-    if words == ["lengths"]:
-        return 0 if judge_lengths(sys.stdin) else 1
-    if words == ["judge"]:
-        return 0 if judge(sys.stdin) else 1
-    if words == ["texts"]:
-        return 0 if judge_texts(sys.stdin) else 1
+    if len(words) == 2:
+        lines = open(words[1], encoding="utf-8")
+        if words[0] == "lengths":
+            return 0 if judge_lengths(lines) else 1
+        return 0 if {"judge": judge, "texts": judge_texts}[words[0]](lines, sys.stdin) else 1
+    both = ["summary", "summary_data"]
     if words == ["hostile"]:
-        print("\n".join(hostile()))
+        for text in hostile():
+            print_lines(text, both)
         return 0
     kind, seed, count = words[0], int(words[1]), int(words[2])
     draw = random.Random(seed)
     for _ in range(count):
         text = modifiers(draw) if kind == "modifiers" else pattern(draw)
-        print(text)
+        print_lines(text, ["summary"] if kind == "pairs" else both)
         if kind == "pairs":
-            print(altered(draw, text))
+            print_lines(altered(draw, text), ["summary"])
     return 0
 
 

@@ -1,9 +1,9 @@
 #!/usr/bin/env python3
-"""The rows of the program `cronzones`, with answers that were not taken from the library.
+"""Rows of the tables of zones, as questions of cronreplay with answers that were not taken from the library.
 
-    tools/zone_rows.py >crates/cronzones/stdin
+    tools/zone_rows.py                     the rows on zones of crates/cronreplay/stdin, one a line
 
-What a clock reads is answered by Python's `zoneinfo`, over the files of crates/cronzones/data; a rule is given to it
+What a clock reads is answered by Python's `zoneinfo`, over the files of crates/cronreplay/data; a rule is given to it
 as the last line of a file without a table (the day 0 as J1, since Python 3.11 reads it as the day before). Whether a zone is calm is decided by the changes that it reads, and runs
 come from `model.py` over these changes.
 """
@@ -18,7 +18,7 @@ import zoneinfo
 import model
 import zones
 
-DATA = pathlib.Path(__file__).resolve().parent.parent / "crates" / "cronzones" / "data"
+DATA = pathlib.Path(__file__).resolve().parent.parent / "crates" / "cronreplay" / "data"
 FIRST, LAST = zones.window(["1970", "2100"])
 LIMIT = model.LIMIT
 
@@ -44,9 +44,9 @@ def of_offset(hours):
     return of_rule(f"<F>{-hours}", (("offset", 3_600 * hours),))
 
 
-def row(source, first, last, note, **members):
+def row(source, first, last, note, op, **members):
     """Prints one row."""
-    print(json.dumps({"note": note, "zone": source[2], "first": first, "last": last, **members}))
+    print(json.dumps({"note": note, "op": op, "zone": {**source[2], "window": [first, last]}, **members}))
 
 
 def changes(source, first, last):
@@ -67,24 +67,24 @@ def readings(source, first, last, note):
         refusal(source, first, last, note)
         return
     seconds = [first, last] + [change.second + step for change in found for step in (-1, 0)]
-    row(source, first, last, note, readings=seconds, want=[zones.shown(source[0], second) for second in seconds])
+    row(source, first, last, note, "readings", seconds=seconds, want=[zones.shown(source[0], second) for second in seconds])
 
 
 def refusal(source, first, last, note):
     """A window without a table."""
-    row(source, first, last, note, readings=[], want="InvalidTime")
+    row(source, first, last, note, "readings", seconds=[], want="InvalidTime")
 
 
 def beyond(source, first, last, note):
     """The readings about the two ends of a window: outside of it its table keeps the offsets of the ends."""
     seconds = [first - 1, first, last, last + 1]
     offsets = [zones.ahead(source[0], end) for end in (first, first, last, last)]
-    row(source, first, last, note, readings=seconds,
+    row(source, first, last, note, "readings", seconds=seconds,
         want=[model.civil_text(second + offset) for second, offset in zip(seconds, offsets)])
 
 
 def runs(clock, pattern, start, kind, direction):
-    """The runs from a start on, as the program has them."""
+    """The runs from a start on: of a search that may find its start or not, or so many of a listing."""
     count, inclusive = (1, kind) if isinstance(kind, bool) else (kind, True)
     found, _ = model.answers([model.Job(pattern)], clock, start, direction, inclusive, count)
     return [run[0] for run in found if run is not None]
@@ -92,8 +92,13 @@ def runs(clock, pattern, start, kind, direction):
 
 def search(source, window, way, asked, note):
     """Runs over the table of a window."""
-    direction = {"next": model.FORWARD, "previous": model.BACKWARD}[way]
-    row(source, *window, note, **{way: asked}, want=runs(table(source, *window), *asked, direction))
+    direction, how = {"next": (model.FORWARD, "from_forward"), "prev": (model.BACKWARD, "from_backward")}[way]
+    text, start, kind = asked
+    found = runs(table(source, *window), *asked, direction)
+    if isinstance(kind, bool):
+        row(source, *window, note, way, text=text, start=start, inclusive=kind, count=1, want=found or [LIMIT])
+    else:
+        row(source, *window, note, "iter", text=text, start=start, how=how, count=kind, want=found + [None] * (kind - len(found)))
 
 
 def comparison(source, first, last, seed, note):
@@ -104,7 +109,7 @@ def comparison(source, first, last, seed, note):
     asked += [[*zones.drawn(draw, place), 6] for _ in range(4)]
     count = sum(well_in(runs(clock, *each, direction), first, last) for each in asked
                 for direction in (model.FORWARD, model.BACKWARD))
-    row(source, first, last, note, compare=asked, want={"runs": count, "differences": []})
+    row(source, first, last, note, "zone_compare", asked=asked, want={"runs": count, "differences": []})
 
 
 def well_in(found, first, last):
@@ -128,7 +133,7 @@ def zone_rows():
     whole(of_file("Europe_Paris_without_rule"), "Paris, a table of the years to 2037 without a rule after it")
     whole(of_file("America_Anchorage"), "Anchorage from 1900", -2_208_988_800)
     row(of_file("America_Anchorage"), zones.FIRST_SECOND, LAST, "Anchorage from the beginning: back by a day in 1867",
-        readings=[], want="InvalidTime")
+        "readings", seconds=[], want="InvalidTime")
     whole(of_file("Pacific_Apia"), "Apia over December 2011, which lacks the 30th", 1_322_697_600, 1_328_054_400)
     readings(of_file("Antarctica_Casey"), FIRST, LAST, "Casey: back by three hours in 2010")
     whole(of_file("Antarctica_Casey"), "Casey from 2024, a window without a change", 1_704_067_200)
@@ -145,7 +150,7 @@ def rule_rows():
     """The rows of rules and offsets."""
     whole(of_rule("AEST-10AEDT,M10.1.0,M4.1.0/3"), "a rule south of the equator")
     whole(of_offset(5), "a fixed offset")
-    row(({}, b"", {"offset": 86_400}), FIRST, LAST, "a day ahead", readings=[0], want=["1970-01-02T00:00:00"])
+    row(({}, b"", {"offset": 86_400}), FIRST, LAST, "a day ahead", "readings", seconds=[0], want=["1970-01-02T00:00:00"])
     refusal(({}, b"", {"offset": 86_401}), FIRST, LAST, "more than a day ahead")
     odd = of_rule("STD0DST,M3.1.0/0,J62/0")
     readings(odd, 1_709_424_000, 1_740_000_000, "back at the beginning of 2025, without a transition")
@@ -155,7 +160,7 @@ def rule_rows():
     readings(odd, FIRST, LAST, "back and forward within five hours at each New Year")
     late = of_rule("AAA-6BBB,M1.1.1/0,M4.5.0/0")
     readings(late, 1_700_000_000, 1_704_100_000, "forward at the first second of 2024 in UTC, six hours late")
-    row(late, 1_700_000_000, 1_704_100_000, "the clock has not jumped at the instant of the rule", readings=[1_704_045_600],
+    row(late, 1_700_000_000, 1_704_100_000, "the clock has not jumped at the instant of the rule", "readings", seconds=[1_704_045_600],
         want=["2024-01-01T00:00:00"])
 
 
@@ -174,7 +179,7 @@ def window_rows():
 
 def shown_at(source, first, last, seconds, note):
     """The readings at some seconds of a window that is too long for each change."""
-    row(source, first, last, note, readings=seconds, want=[zones.shown(source[0], second) for second in seconds])
+    row(source, first, last, note, "readings", seconds=seconds, want=[zones.shown(source[0], second) for second in seconds])
 
 
 def about_changes(source, years):
@@ -216,14 +221,14 @@ def search_rows():
     search(paris, whole_window, "next", ["30 2 * * *", 1_711_756_800, 3], "carried to the end of a gap")
     search(paris, whole_window, "next", ["30 2 * * *", 1_729_900_800, 3], "once where the hour comes twice")
     search(paris, whole_window, "next", ["*/30 2 * * *", 1_729_980_000, 6], "in both halves of the hour")
-    search(paris, whole_window, "previous", ["10 2 * * *", 1_729_998_000, False], "the earlier half, before the change")
-    search(paris, (1_729_990_800, LAST), "previous", ["10 2 * * *", 1_729_998_000, False],
+    search(paris, whole_window, "prev", ["10 2 * * *", 1_729_998_000, False], "the earlier half, before the change")
+    search(paris, (1_729_990_800, LAST), "prev", ["10 2 * * *", 1_729_998_000, False],
            "a table from the change on knows no earlier half: no run of the zone, and not well in the window")
-    search(york, whole_window, "previous", ["*/15 1 * * *", 1_730_620_800, 9], "backward through both halves")
+    search(york, whole_window, "prev", ["*/15 1 * * *", 1_730_620_800, 9], "backward through both halves")
     search(howe, whole_window, "next", ["45 1 * * *", 1_712_400_000, 3], "half an hour that comes twice")
     search(howe, whole_window, "next", ["15 2 * * *", 1_728_100_000, 3], "a gap of half an hour")
     search(apia, (1_322_697_600, 1_328_054_400), "next", ["30 2 * * *", 1_325_000_000, 4], "a day that is left out")
-    search(apia, (1_322_697_600, 1_328_054_400), "previous", ["0 12 30 * *", 1_328_000_000, 2], "no 30 December")
+    search(apia, (1_322_697_600, 1_328_054_400), "prev", ["0 12 30 * *", 1_328_000_000, 2], "no 30 December")
     search(of_file("Pacific_Kwajalein"), whole_window, "next", ["30 2 * * *", 745_700_000, 4], "a gap of a whole day")
     search(nepal, whole_window, "next", ["10 0 1 1 *", 500_000_000, 2], "a gap of a quarter of an hour at New Year")
     search(of_file("America_Anchorage"), (-2_208_988_800, LAST), "next", ["30 2 * * *", 436_300_000, 4],

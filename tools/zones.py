@@ -8,14 +8,14 @@
 
 Each name of the machine's database (its folders posix and right are left out) is read here by `zoneinfo`, which shares
 nothing with the library: where the zone's clock changes in the window, from the first second of FIRST to the first of
-LAST, and whether the clock is calm there. The program `cronzones` is asked for the zone's table. Where the zone is
+LAST, and whether the clock is calm there. The program `cronreplay` is asked for the zone's table. Where the zone is
 calm here, the table has to read what `zoneinfo` reads at the two ends of the window, and at each change and one second
 before it; where it is not, InvalidTime is wanted. Then 200 searches and 20 listings at the changes are asked in both
 directions, over the table and in the zone itself.
 
 It prints each name that is not calm with the change that makes it so, each answer that is not the one that is wanted,
 each difference, and a summary. The last line is 'N passed, M failed': the readings and the comparisons of the zones, and
-those with a wrong answer or a difference among them. The status is 0 where none failed. `cronzones` is built first, by
+those with a wrong answer or a difference among them. The status is 0 where none failed. `cronreplay` is built first, by
 `rt run` or `rt ci`. Where the machine has no database, that is told as skipped.
 """
 import calendar
@@ -37,7 +37,7 @@ MARGIN = 180_000
 APART, FORWARD, BACK = 2 * DAY, DAY, 7_200
 SEARCHES, LISTINGS, ITEMS = 200, 20, 12
 FOLDERS = [pathlib.Path(path) for path in zoneinfo.TZPATH]
-PROGRAM = pathlib.Path(__file__).resolve().parent.parent / "crates" / "cronzones" / "out" / "cronzones"
+PROGRAM = pathlib.Path(__file__).resolve().parent.parent / "crates" / "cronreplay" / "out" / "cronreplay"
 BEGINNING = datetime.datetime(1970, 1, 1, tzinfo=datetime.timezone.utc)
 
 # Summer time of an hour, of half an hour and of two hours; a clock that goes back by three hours; a day that is skipped; four
@@ -152,18 +152,19 @@ def places(names, first, last):
         yield Place([name for name, _ in named], named[0][1], first, last, changes, fault_of(changes)), zone
 
 
-def ask(place, **members):
+def ask(place, op, want, **members):
     """A line for the program."""
-    return json.dumps({"zone": {"file": str(place.file)}, "first": place.first, "last": place.last, **members})
+    zone = {"file": str(place.file), "window": [place.first, place.last]}
+    return json.dumps({"op": op, "zone": zone, **members, "want": want})
 
 
 def readings(place, zone):
     """The line that asks for the readings, or wants the refusal."""
     if place.fault is not None:
-        return ask(place, readings=[], want="InvalidTime")
+        return ask(place, "readings", "InvalidTime", seconds=[])
     seconds = [max(place.first, EARLIEST), min(place.last, LATEST)]
     seconds += [change.second + step for change in place.changes for step in (-1, 0)]
-    return ask(place, readings=seconds, want=[shown(zone, second) for second in seconds])
+    return ask(place, "readings", [shown(zone, second) for second in seconds], seconds=seconds)
 
 
 def wall_parts(draw, second):
@@ -196,11 +197,11 @@ def drawn(draw, place):
 
 
 def comparison(place):
-    """The line that asks for searches and listings."""
+    """The line that asks for searches and listings; it wants nothing, so that its answer is printed."""
     draw = random.Random(place.names[0])
     asked = [[*drawn(draw, place), draw.random() < 0.5] for _ in range(SEARCHES)]
     asked += [[*drawn(draw, place), ITEMS] for _ in range(LISTINGS)]
-    return asked, ask(place, compare=asked)
+    return asked, ask(place, "zone_compare", None, asked=asked)
 
 
 def told(place):
@@ -217,12 +218,12 @@ def answers(lines):
     for line in ran.stdout.splitlines()[:-1]:
         number, text = line.removeprefix("line ").split(": ", 1)
         found[int(number)] = text
-    return found, ran.stdout.splitlines()[-1:], ran.stderr
+    return found, ran.stderr
 
 
 def print_differences(place, asked, answer):
     """Prints the differences of a comparison, and answers how many there are, and the runs that were compared."""
-    found = json.loads(answer)
+    found = json.loads(answer.removeprefix("got ").removesuffix(", want null"))
     if isinstance(found, str):
         print(f"wrong: {place.names[0]}: {found}")
         return 1, 0
@@ -255,7 +256,7 @@ def main(words):
             wanted, line = comparison(place)
             lines.append(line)
             asked[len(lines)] = place, wanted
-    found, summary, errors = answers(lines)
+    found, errors = answers(lines)
     wrong = {number: text for number, text in found.items() if number not in asked}
     for place in names.values():
         if place.fault is not None:
@@ -267,7 +268,7 @@ def main(words):
     print(f"{sum(len(place.names) for place in names.values())} names of {len(names)} files, "
           f"{sum(len(place.names) for place in calm)} of {len(calm)} files calm, with {sum(len(p.changes) for p in calm)} changes")
     print(f"{2 * SEARCHES * len(calm)} searches and {2 * LISTINGS * len(calm)} listings: {sum(runs for _, runs in counts)} runs, "
-          f"{sum(count for count, _ in counts)} differences, {len(wrong)} wrong answers", *summary, errors.strip())
+          f"{sum(count for count, _ in counts)} differences, {len(wrong)} wrong answers", errors.strip())
     differing = len(wrong) + sum(count > 0 for count, _ in counts)
     failed = differing + bool(errors)
     print(f"{len(lines) - differing} passed, {failed} failed")

@@ -21,18 +21,15 @@ pub fn words(rt: &HostRuntime) -> io::Result<Vec<String>> {
 pub enum Asked {
     /// Measure each group this often.
     Rounds(u32),
-    /// Answer cases of calls that ask for memory.
-    Memory,
     /// Keep so many jobs of a form in a scheduler.
     Keep(JobForm, u32),
 }
 
-/// What the program's words ask for: a number of rounds above 0, `memory`, or `keep` with a form and a number of jobs. `None` where
-/// the words don't have that form.
+/// What the program's words ask for: a number of rounds above 0, or `keep` with a form and a number of jobs. `None` where the words
+/// don't have that form.
 pub fn asked_by(words: &[String]) -> Option<Asked> {
     match words {
         [] => Some(Asked::Rounds(ROUNDS)),
-        [word] if word.as_str() == "memory" => Some(Asked::Memory),
         [rounds] => {
             let rounds = rounds.as_str().parse().ok().filter(|rounds| *rounds > 0)?;
             Some(Asked::Rounds(rounds))

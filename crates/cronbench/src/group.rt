@@ -1,20 +1,20 @@
 //! The groups of calls that are measured.
 
 use crate::answers::Answers;
+use crate::clocks::{Clock, TableClock};
 use crate::forms::JobForm;
-use crate::many::{ITEMS, LONG_ITEMS};
-use crate::passes::{
-    compare, copy, describe, iterate, limit, matching, next, parse, previous, read_hostile,
-};
+use crate::hostile::read_hostile;
+use crate::many::{ITEMS, JobTable, LONG_ITEMS, TableCall, next_of_each};
+use crate::passes::{RunCall, compare, copy, describe, parse, read};
+use crate::scheduler;
 use crate::scheduler::Call;
-use crate::subjects::{Subjects, Times};
+use crate::starts::BEFORE_MONDAY;
 use crate::watch::Watch;
-use crate::{many, scheduler};
 use croner::describe::lang::english::English;
 use croner::describe::lang::swedish::Swedish;
-use croner::errors::CronError;
 use croner::time::table::TableTime;
 use croner::{CompactCron, Cron};
+use croner_rows::{Job, Result};
 use std::alloc::Global;
 use std::slice::from_ref;
 
@@ -30,42 +30,50 @@ const THOUSAND: u32 = 1_000;
 
 const HUNDRED_THOUSAND: u32 = 100_000;
 
+/// A pattern whose date occurs in 15 of 400 years.
+const LEAP_MONDAY: &str = "0 0 29 2 +MON";
+
+/// A pattern for every second.
+const EACH_SECOND: &str = "* * * * * *";
+
+/// A pattern for every hour.
+const HOURLY: &str = "0 * * * *";
+
+/// A pattern for twelve times an hour.
+const OFTEN: &str = "*/5 * * * *";
+
+/// A pattern whose date never occurs.
+const NO_DATE: &str = "0 0 31 2 *";
+
+/// A pattern for every second year, from year 1 on, whose date never occurs.
+const NO_DATE_IN_ODD_YEARS: &str = "0 0 0 31 2 * */2";
+
+/// A pattern whose minutes name nothing.
+const NO_MINUTE: &str = ", * * * *";
+
 /// A group of calls of one kind.
 #[derive(Clone, Copy)]
 pub enum Group {
+    /// Each pattern is read.
     Parse,
-    MatchCivil,
-    NextCivil,
-    PreviousCivil,
-    NextTable,
-    NextZoned,
-    IterateCivil,
-    IterateTable,
+    /// Each job is described.
     DescribeEnglish,
     DescribeSwedish,
+    /// Each job is compared with its clone.
     Compare,
+    /// Each job is cloned.
     Copy,
-    LeapMonday,
-    NoDate,
-    NoDateInOddYears,
-    NoMinute,
-    NextLongTable,
-    NextFarOnLongTable,
-    HostileShort,
-    HostileMiddle,
-    HostileLong,
+    /// Texts that no crontab has are read, of so many bytes.
+    Hostile(usize),
+    /// A call of each job, on a clock.
+    Runs(RunCall, Clock),
+    /// The next runs of one pattern, on a clock.
+    NextOf(&'static str, Clock),
+    /// The next run of many jobs, each by itself.
     NextOfEach,
-    NextOfMany,
-    IterateMany,
-    IterateManyLater,
-    FirstOfMany,
-    IterateDaily,
-    IterateDailyLong,
-    IterateMore,
-    OverAnHour,
-    OverADay,
-    HourlyOverAnHour,
-    OftenOverAnHour,
+    /// A call of a table of many jobs.
+    Table(TableCall, JobTable),
+    /// Calls of a scheduler, whose jobs have a form.
     Scheduler(JobForm, Calls),
 }
 
@@ -76,60 +84,114 @@ pub struct Calls(Call, u32, JobZone);
 /// Every group and its name, but those of a scheduler, in the order in which they are shown.
 pub const GROUPS: [(Group, &str); 33] = [
     (Group::Parse, "parse"),
-    (Group::MatchCivil, "match, civil time"),
-    (Group::NextCivil, "next run, civil time"),
-    (Group::PreviousCivil, "previous run, civil time"),
-    (Group::NextTable, "next run, table"),
-    (Group::NextZoned, "next run, time zone"),
-    (Group::IterateCivil, "1,000 runs, civil time"),
-    (Group::IterateTable, "1,000 runs, table"),
+    (
+        Group::Runs(RunCall::Match, Clock::Civil),
+        "match, civil time",
+    ),
+    (
+        Group::Runs(RunCall::Next, Clock::Civil),
+        "next run, civil time",
+    ),
+    (
+        Group::Runs(RunCall::Previous, Clock::Civil),
+        "previous run, civil time",
+    ),
+    (
+        Group::Runs(RunCall::Next, Clock::Table(TableClock::Paris)),
+        "next run, table",
+    ),
+    (
+        Group::Runs(RunCall::Next, Clock::Zoned),
+        "next run, time zone",
+    ),
+    (
+        Group::Runs(RunCall::Iterate, Clock::Civil),
+        "1,000 runs, civil time",
+    ),
+    (
+        Group::Runs(RunCall::Iterate, Clock::Table(TableClock::Paris)),
+        "1,000 runs, table",
+    ),
     (Group::DescribeEnglish, "describe, English"),
     (Group::DescribeSwedish, "describe, Swedish"),
     (Group::Compare, "clone and compare"),
     (Group::Copy, "clone"),
-    (Group::LeapMonday, "next run of 0 0 29 2 +MON"),
-    (Group::NoDate, "next run of 0 0 31 2 *"),
-    (Group::NoDateInOddYears, "next run of 0 0 0 31 2 * */2"),
-    (Group::NoMinute, "next run of , * * * *"),
-    (Group::NextLongTable, "next run, table of 20,000 changes"),
-    (Group::NextFarOnLongTable, "next run, far on that table"),
-    (Group::HostileShort, "hostile texts of 10,000 bytes"),
-    (Group::HostileMiddle, "hostile texts of 100,000 bytes"),
-    (Group::HostileLong, "hostile texts of 1,000,000 bytes"),
+    (
+        Group::NextOf(LEAP_MONDAY, Clock::Civil),
+        "next run of 0 0 29 2 +MON",
+    ),
+    (
+        Group::NextOf(NO_DATE, Clock::FirstSecond),
+        "next run of 0 0 31 2 *",
+    ),
+    (
+        Group::NextOf(NO_DATE_IN_ODD_YEARS, Clock::FirstSecond),
+        "next run of 0 0 0 31 2 * */2",
+    ),
+    (
+        Group::NextOf(NO_MINUTE, Clock::FirstSecond),
+        "next run of , * * * *",
+    ),
+    (
+        Group::Runs(RunCall::Next, Clock::Table(TableClock::Long)),
+        "next run, table of 20,000 changes",
+    ),
+    (
+        Group::Runs(RunCall::Next, Clock::Table(TableClock::FarOnLong)),
+        "next run, far on that table",
+    ),
+    (Group::Hostile(10_000), "hostile texts of 10,000 bytes"),
+    (Group::Hostile(100_000), "hostile texts of 100,000 bytes"),
+    (
+        Group::Hostile(1_000_000),
+        "hostile texts of 1,000,000 bytes",
+    ),
     (
         Group::NextOfEach,
         "next run of 1,000 patterns, each by itself",
     ),
-    (Group::NextOfMany, "next run of a table of 1,000 patterns"),
-    (Group::IterateMany, "64 runs of a table of 1,000 patterns"),
     (
-        Group::IterateManyLater,
+        Group::Table(TableCall::Next, JobTable::Thousand),
+        "next run of a table of 1,000 patterns",
+    ),
+    (
+        Group::Table(TableCall::Iterate(ITEMS), JobTable::Thousand),
+        "64 runs of a table of 1,000 patterns",
+    ),
+    (
+        Group::Table(TableCall::IterateLater, JobTable::Thousand),
         "runs 3 to 64 of a table of 1,000 patterns",
     ),
     (
-        Group::FirstOfMany,
+        Group::Table(TableCall::First, JobTable::Thousand),
         "first run of an iterator over that table",
     ),
     (
-        Group::IterateDaily,
+        Group::Table(TableCall::Iterate(ITEMS), JobTable::Daily),
         "64 runs of a table of 1,000 patterns, one at a time",
     ),
-    (Group::IterateDailyLong, "10,000 runs of that table"),
-    (Group::IterateMore, "64 runs of a table of 100,000 patterns"),
     (
-        Group::OverAnHour,
+        Group::Table(TableCall::Iterate(LONG_ITEMS), JobTable::Daily),
+        "10,000 runs of that table",
+    ),
+    (
+        Group::Table(TableCall::Iterate(ITEMS), JobTable::HundredThousand),
+        "64 runs of a table of 100,000 patterns",
+    ),
+    (
+        Group::NextOf(EACH_SECOND, Clock::Table(TableClock::GapOfAnHour)),
         "next run of * * * * * *, over a gap of an hour",
     ),
     (
-        Group::OverADay,
+        Group::NextOf(EACH_SECOND, Clock::Table(TableClock::GapOfADay)),
         "next run of * * * * * *, over a gap of a day",
     ),
     (
-        Group::HourlyOverAnHour,
+        Group::NextOf(HOURLY, Clock::Table(TableClock::GapOfAnHour)),
         "next run of 0 * * * *, over a gap of an hour",
     ),
     (
-        Group::OftenOverAnHour,
+        Group::NextOf(OFTEN, Clock::Table(TableClock::GapOfAnHour)),
         "next run of */5 * * * *, over a gap of an hour",
     ),
 ];
@@ -202,99 +264,49 @@ pub const SCHEDULERS: [(Calls, &str); 16] = [
     ),
 ];
 
-// Where the scheduler's jobs start.
-fn start_in<'t>(times: &Times<'t>, zone: JobZone) -> TableTime<'t> {
-    match zone {
-        JobZone::Utc => times.in_utc,
-        JobZone::Paris => times.in_paris,
+impl Calls {
+    // Makes the calls on jobs of a form.
+    fn pass(self, alloc: Global, form: JobForm, watch: &mut Watch<'_>) -> Result<Answers> {
+        let Calls(call, jobs, zone) = self;
+        let table = match zone {
+            JobZone::Utc => TableClock::Utc.table(alloc)?,
+            JobZone::Paris => TableClock::Paris.table(alloc)?,
+        };
+        let start = TableTime::new(&table, BEFORE_MONDAY)?;
+        let answers = match form {
+            JobForm::Whole => scheduler::pass::<Cron>(alloc, call, jobs, start, watch)?,
+            JobForm::Compact => scheduler::pass::<CompactCron>(alloc, call, jobs, start, watch)?,
+        };
+        Ok(answers)
     }
 }
 
 impl Group {
-    /// Makes each call of the group once. What comes before a restart of the watch is not measured.
+    /// Makes each call of the group once, on these patterns and their jobs. What comes before a restart of the watch is not measured.
     pub fn pass(
         self,
         alloc: Global,
-        subjects: &Subjects<'_>,
+        patterns: &[String],
+        jobs: &[Job],
         watch: &mut Watch<'_>,
-    ) -> Result<Answers, CronError> {
-        let jobs = subjects.jobs.as_slice();
+    ) -> Result<Answers> {
         match self {
-            Group::Parse => parse(alloc, subjects.patterns.as_slice()),
-            Group::HostileShort => read_hostile(alloc, subjects.hostile.short.as_slice()),
-            Group::HostileMiddle => read_hostile(alloc, subjects.hostile.middle.as_slice()),
-            Group::HostileLong => read_hostile(alloc, subjects.hostile.long.as_slice()),
-            Group::MatchCivil => matching(jobs, subjects.times.civil.as_slice()),
-            Group::DescribeEnglish => describe(jobs, English),
-            Group::DescribeSwedish => describe(jobs, Swedish),
-            Group::Compare => compare(jobs),
-            Group::Copy => copy(jobs),
-            Group::Scheduler(JobForm::Whole, Calls(call, jobs, zone)) => {
-                scheduler::pass::<Cron>(alloc, call, jobs, start_in(&subjects.times, zone), watch)
-            }
-            Group::Scheduler(JobForm::Compact, Calls(call, jobs, zone)) => {
-                let start = start_in(&subjects.times, zone);
-                scheduler::pass::<CompactCron>(alloc, call, jobs, start, watch)
-            }
-            _ => self.search(subjects, watch),
+            Group::Parse => Ok(parse(alloc, patterns)?),
+            Group::DescribeEnglish => Ok(describe(jobs, English)?),
+            Group::DescribeSwedish => Ok(describe(jobs, Swedish)?),
+            Group::Compare => Ok(compare(jobs)?),
+            Group::Copy => Ok(copy(jobs)?),
+            Group::Hostile(bytes) => Ok(read_hostile(alloc, bytes, watch)?),
+            Group::Runs(call, clock) => clock.answers(alloc, jobs, call, watch),
+            Group::NextOf(pattern, clock) => next_of(alloc, pattern, clock, watch),
+            Group::NextOfEach => next_of_each(alloc, jobs, watch),
+            Group::Table(call, table) => table.answers(alloc, patterns, call, watch),
+            Group::Scheduler(form, calls) => calls.pass(alloc, form, watch),
         }
     }
+}
 
-    // The searches of one job at a time.
-    fn search(self, subjects: &Subjects<'_>, watch: &mut Watch<'_>) -> Result<Answers, CronError> {
-        let jobs = subjects.jobs.as_slice();
-        let (times, never) = (&subjects.times, &subjects.never);
-        match self {
-            Group::NextCivil => next(jobs, times.civil.as_slice()),
-            Group::PreviousCivil => previous(jobs, times.civil.as_slice()),
-            Group::NextTable => next(jobs, times.table.as_slice()),
-            Group::NextZoned => next(jobs, times.zoned.as_slice()),
-            Group::IterateCivil => iterate(jobs, times.civil.as_slice()),
-            Group::IterateTable => iterate(jobs, times.table.as_slice()),
-            Group::LeapMonday => next(from_ref(&subjects.single.rare), times.civil.as_slice()),
-            Group::NoDate => limit(&never.no_date, &never.first),
-            Group::NoDateInOddYears => limit(&never.no_date_in_odd_years, &never.first),
-            Group::NoMinute => limit(&never.no_minute, &never.first),
-            Group::NextLongTable => next(jobs, times.long_table.as_slice()),
-            Group::NextFarOnLongTable => next(jobs, times.far_on_long_table.as_slice()),
-            _ => self.search_many(subjects, watch),
-        }
-    }
-
-    // The searches of many jobs.
-    fn search_many(
-        self,
-        subjects: &Subjects<'_>,
-        watch: &mut Watch<'_>,
-    ) -> Result<Answers, CronError> {
-        let starts = subjects.times.civil.as_slice();
-        match self {
-            Group::NextOfEach => many::next_each(subjects.jobs.as_slice(), starts),
-            Group::NextOfMany => many::next(&subjects.tables.thousand, starts),
-            Group::IterateMany => many::iterate(&subjects.tables.thousand, starts, ITEMS),
-            Group::IterateManyLater => many::iterate_later(
-                &subjects.tables.thousand,
-                starts,
-                watch,
-            ),
-            Group::FirstOfMany => many::first(&subjects.tables.thousand, starts),
-            Group::IterateDaily => many::iterate(&subjects.tables.daily, starts, ITEMS),
-            Group::IterateDailyLong => many::iterate(&subjects.tables.daily, starts, LONG_ITEMS),
-            Group::IterateMore => many::iterate(&subjects.tables.larger, starts, ITEMS),
-            _ => self.search_over_gap(subjects),
-        }
-    }
-
-    // The searches from a second before a gap: those of every second where no other job is named, and over an hour where no
-    // day is.
-    fn search_over_gap(self, subjects: &Subjects<'_>) -> Result<Answers, CronError> {
-        let (each_second, times) = (from_ref(&subjects.single.each_second), &subjects.times);
-        let before_an_hour = times.before_an_hour.as_slice();
-        match self {
-            Group::HourlyOverAnHour => next(from_ref(&subjects.single.hourly), before_an_hour),
-            Group::OftenOverAnHour => next(from_ref(&subjects.single.often), before_an_hour),
-            Group::OverADay => next(each_second, times.before_a_day.as_slice()),
-            _ => next(each_second, before_an_hour),
-        }
-    }
+fn next_of(alloc: Global, pattern: &str, clock: Clock, watch: &mut Watch<'_>) -> Result<Answers> {
+    let job = read(alloc, pattern)?;
+    clock.answers(alloc, from_ref(&job), RunCall::Next, watch)
 }

@@ -4,11 +4,11 @@
 //! has the sum of each group's answers, the same in every run. Standard error has the nanoseconds of processor time of one
 //! call, in the fastest round. If standard input has no pattern, standard error says so, and nothing is measured.
 //!
-//! With the word `memory` it answers each line of standard input, which is a case of calls that ask for memory. With `keep`,
-//! `whole` or `compact` and a number, a scheduler keeps so many jobs of that form, so that their memory can be counted.
+//! With `keep`, `whole` or `compact` and a number, a scheduler keeps so many jobs of that form, so that their memory can be counted.
 #![tactic(auto)]
 
 mod answers;
+mod clocks;
 mod forms;
 mod given;
 mod group;
@@ -16,26 +16,22 @@ mod hostile;
 mod keep;
 mod many;
 mod measure;
-mod memory;
-mod paris;
 mod passes;
 mod scheduler;
 mod starts;
-mod subjects;
 mod watch;
 
-use croner_rows::{Result, status};
+use croner_rows::{Job, Result, status};
 use forms::JobForm;
 use given::Asked;
 use group::{GROUPS, Group, SCHEDULERS};
 use keep::keep_jobs;
-use measure::{Measured, measure};
-use memory::answer_cases;
-use paris::Clocks;
+use measure::{Measured, Subjects, measure};
+use passes::read;
+use std::alloc::Global;
 use std::io;
 use std::io::ErrorKind;
 use std::process::ExitCode;
-use subjects::Subjects;
 
 /// The status if the words don't have their form.
 const MISUSED: u8 = 2;
@@ -43,7 +39,6 @@ const MISUSED: u8 = 2;
 const NO_PATTERN: &str = "No pattern stands on standard input: nothing is measured.";
 
 const USAGE: &str = "usage: cronbench [ROUNDS] < PATTERNS
-       cronbench memory < CASES
        cronbench keep whole|compact JOBS";
 
 // Shows what was measured of a group, whose name is `name` and then `mark`.
@@ -66,17 +61,16 @@ fn bench(rt: &HostRuntime, rounds: u32) -> Result<bool> {
         eprintln!(rt; "{NO_PATTERN}")?;
         Ok(true)
     } else {
-        bench_by(rt, patterns, rounds)
+        bench_by(rt, patterns.as_slice(), rounds)
     }
 }
 
-fn bench_by(rt: &HostRuntime, patterns: Vec<String>, rounds: u32) -> Result<bool> {
-    let clocks = Clocks::new(rt.alloc())?;
-    let subjects = Subjects::new(rt.alloc(), patterns, &clocks)?;
-    bench_on(rt, &subjects, rounds)
-}
-
-fn bench_on(rt: &HostRuntime, subjects: &Subjects<'_>, rounds: u32) -> Result<bool> {
+fn bench_by(rt: &HostRuntime, patterns: &[String], rounds: u32) -> Result<bool> {
+    let jobs = jobs(rt.alloc(), patterns)?;
+    let subjects = Subjects {
+        patterns,
+        jobs: jobs.as_slice(),
+    };
     for (group, name) in GROUPS {
         let measured = measure(rt, group, name, subjects, rounds)?;
         show(rt, name, "", measured)?;
@@ -86,11 +80,19 @@ fn bench_on(rt: &HostRuntime, subjects: &Subjects<'_>, rounds: u32) -> Result<bo
     Ok(true)
 }
 
+fn jobs(alloc: Global, patterns: &[String]) -> Result<Vec<Job>> {
+    let mut jobs = Vec::new(alloc);
+    for pattern in patterns {
+        jobs.push(read(alloc, pattern.as_str())?)?;
+    }
+    Ok(jobs)
+}
+
 // Measures the calls of schedulers whose jobs have a form.
 fn bench_schedulers(
     rt: &HostRuntime,
     form: JobForm,
-    subjects: &Subjects<'_>,
+    subjects: Subjects<'_>,
     rounds: u32,
 ) -> Result<()> {
     for (calls, name) in SCHEDULERS {
@@ -112,7 +114,6 @@ fn read_words(rt: &HostRuntime) -> io::Result<Option<Asked>> {
 fn main(rt: HostRuntime) -> io::Result<ExitCode> {
     match read_words(&rt)? {
         Some(Asked::Rounds(rounds)) => status(&rt, bench(&rt, rounds)),
-        Some(Asked::Memory) => status(&rt, answer_cases(&rt)),
         Some(Asked::Keep(form, jobs)) => status(&rt, keep_jobs(&rt, form, jobs)),
         None => {
             eprintln!(rt; "{USAGE}")?;

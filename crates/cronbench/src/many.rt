@@ -1,19 +1,20 @@
 //! Many patterns: each searched by itself, and all as a table.
 
 use crate::answers::Answers;
+use crate::clocks::civil_times;
 use crate::watch::Watch;
 use croner::Cron;
 use croner::crontable::{CronTable, CronTableIterator};
 use croner::errors::CronError;
-use croner_rows::{Job, Moment};
+use croner_rows::{Job, Moment, Result, Table};
 use jiff::civil::DateTime;
 use std::alloc::Global;
 
 /// How often the table has each pattern, so that forty patterns make a thousand jobs.
-pub const TIMES: u32 = 25;
+const TIMES: u32 = 25;
 
 /// How often the larger table has each pattern, so that forty patterns make a hundred thousand jobs.
-pub const LARGER_TIMES: u32 = 2_500;
+const LARGER_TIMES: u32 = 2_500;
 
 /// How many items a table's iterator is asked for: in a short list, and in a long one, in which the first two count little.
 pub const ITEMS: u32 = 64;
@@ -28,8 +29,74 @@ const DAILY_JOBS: u32 = 1_000;
 
 const SECONDS_APART: u32 = 86;
 
-/// The table whose jobs run one at a time.
-pub fn daily_table(alloc: Global) -> Result<CronTable, CronError> {
+/// A table of jobs.
+#[derive(Clone, Copy)]
+pub enum JobTable {
+    Thousand,
+    HundredThousand,
+    /// A thousand jobs that run one at a time.
+    Daily,
+}
+
+/// A call of a table. An answer is a run.
+#[derive(Clone, Copy)]
+pub enum TableCall {
+    /// The next run after each start.
+    Next,
+    /// An iterator's first run after each start.
+    First,
+    /// A number of runs after the first start.
+    Iterate(u32),
+    /// The short list without its first two items, which are not measured.
+    IterateLater,
+}
+
+impl JobTable {
+    /// What a call of the table gives. Only that is measured.
+    pub fn answers(
+        self,
+        alloc: Global,
+        patterns: &[String],
+        call: TableCall,
+        watch: &mut Watch<'_>,
+    ) -> Result<Answers> {
+        let table = Table {
+            jobs: self.jobs(alloc, patterns)?,
+        };
+        let starts = civil_times(alloc)?;
+        watch.restart();
+        let answers = call.answers(&table.jobs, starts.as_slice(), watch);
+        watch.stop();
+        Ok(answers?)
+    }
+
+    fn jobs(self, alloc: Global, patterns: &[String]) -> Result<CronTable, CronError> {
+        match self {
+            JobTable::Thousand => table_of(alloc, patterns, TIMES),
+            JobTable::HundredThousand => table_of(alloc, patterns, LARGER_TIMES),
+            JobTable::Daily => daily_table(alloc),
+        }
+    }
+}
+
+impl TableCall {
+    fn answers(
+        self,
+        table: &CronTable,
+        starts: &[DateTime],
+        watch: &mut Watch<'_>,
+    ) -> Result<Answers, CronError> {
+        match self {
+            TableCall::Next => next(table, starts),
+            TableCall::First => Ok(first(table, starts)),
+            TableCall::Iterate(items) => Ok(iterate(table, starts, items)),
+            TableCall::IterateLater => Ok(iterate_later(table, starts, watch)),
+        }
+    }
+}
+
+// The table whose jobs run one at a time.
+fn daily_table(alloc: Global) -> Result<CronTable, CronError> {
     let mut table = CronTable::new(alloc);
     for job in 0..DAILY_JOBS {
         table.push(daily(alloc, job * SECONDS_APART)?)?;
@@ -44,8 +111,8 @@ fn daily(alloc: Global, second: u32) -> Result<Cron, CronError> {
     Cron::from_str(alloc, text.as_str())
 }
 
-/// The table that has each pattern so often.
-pub fn table_of(alloc: Global, patterns: &[String], times: u32) -> Result<CronTable, CronError> {
+// The table that has each pattern so often.
+fn table_of(alloc: Global, patterns: &[String], times: u32) -> Result<CronTable, CronError> {
     let mut table = CronTable::new(alloc);
     for _ in 0..times {
         for pattern in patterns {
@@ -55,12 +122,15 @@ pub fn table_of(alloc: Global, patterns: &[String], times: u32) -> Result<CronTa
     Ok(table)
 }
 
-/// Searches the next run of each job after each start, several times. An answer is the least run of all.
-pub fn next_each(jobs: &[Job], starts: &[DateTime]) -> Result<Answers, CronError> {
+/// Searches the next run of each job after each start, several times, and measures that. An answer is the least run of all.
+pub fn next_of_each(alloc: Global, jobs: &[Job], watch: &mut Watch<'_>) -> Result<Answers> {
+    let starts = civil_times(alloc)?;
     let mut answers = Answers::default();
-    for start in starts {
+    watch.restart();
+    for start in starts.as_slice() {
         answers.add(least(jobs, start)?);
     }
+    watch.stop();
     Ok(answers)
 }
 
@@ -76,8 +146,8 @@ fn least(jobs: &[Job], start: &DateTime) -> Result<i64, CronError> {
     Ok(least)
 }
 
-/// Searches the next run of the table after each start. An answer is the run.
-pub fn next(table: &CronTable, starts: &[DateTime]) -> Result<Answers, CronError> {
+// Searches the next run of the table after each start.
+fn next(table: &CronTable, starts: &[DateTime]) -> Result<Answers, CronError> {
     let mut answers = Answers::default();
     for start in starts {
         let (run, _places) = table.find_next_occurrence(start, false)?;
@@ -86,22 +156,18 @@ pub fn next(table: &CronTable, starts: &[DateTime]) -> Result<Answers, CronError
     Ok(answers)
 }
 
-/// Lists a number of the table's runs after the first start. An answer is a run.
-pub fn iterate(table: &CronTable, starts: &[DateTime], items: u32) -> Result<Answers, CronError> {
+// Lists a number of the table's runs after the first start.
+fn iterate(table: &CronTable, starts: &[DateTime], items: u32) -> Answers {
     let mut answers = Answers::default();
     if let Some(start) = starts.first() {
         let mut runs = table.iter_after(*start);
         add_runs(&mut answers, &mut runs, items);
     }
-    Ok(answers)
+    answers
 }
 
-/// The short list without its first two items, which are not measured. An answer is a run.
-pub fn iterate_later(
-    table: &CronTable,
-    starts: &[DateTime],
-    watch: &mut Watch<'_>,
-) -> Result<Answers, CronError> {
+// The short list without its first two items, which are not measured.
+fn iterate_later(table: &CronTable, starts: &[DateTime], watch: &mut Watch<'_>) -> Answers {
     let mut answers = Answers::default();
     if let Some(start) = starts.first() {
         let mut runs = table.iter_after(*start);
@@ -109,7 +175,7 @@ pub fn iterate_later(
         watch.restart();
         add_runs(&mut answers, &mut runs, ITEMS - SEARCHING_ITEMS);
     }
-    Ok(answers)
+    answers
 }
 
 // Adds the next runs, as far as there are any.
@@ -119,14 +185,14 @@ fn add_runs(answers: &mut Answers, runs: &mut CronTableIterator<'_, DateTime>, i
     }
 }
 
-/// Asks for the table's first run after each start, by a new iterator. An answer is a run.
-pub fn first(table: &CronTable, starts: &[DateTime]) -> Result<Answers, CronError> {
+// Asks for the table's first run after each start, by a new iterator.
+fn first(table: &CronTable, starts: &[DateTime]) -> Answers {
     let mut answers = Answers::default();
     for start in starts {
         let mut runs = table.iter_after(*start);
         add_run(&mut answers, &mut runs);
     }
-    Ok(answers)
+    answers
 }
 
 // Adds the next run, where there is one.

@@ -2,10 +2,16 @@
 
 use crate::answers::Answers;
 use crate::group::Group;
-use crate::subjects::Subjects;
 use crate::watch::Watch;
-use croner_rows::{Fault, Result};
+use croner_rows::{Fault, Job, Result};
 use std::time::Duration;
+
+/// What is measured on: patterns as they are written, and a job for each.
+#[derive(Clone, Copy)]
+pub struct Subjects<'s> {
+    pub patterns: &'s [String],
+    pub jobs: &'s [Job],
+}
 
 /// The answers of a group's calls, and the processor time that they took together.
 #[derive(Clone, Copy)]
@@ -26,7 +32,7 @@ pub fn measure(
     rt: &HostRuntime,
     group: Group,
     name: &'static str,
-    subjects: &Subjects<'_>,
+    subjects: Subjects<'_>,
     passes: u32,
 ) -> Result<Measured> {
     let mut least = measure_pass(rt, group, subjects)?;
@@ -40,9 +46,9 @@ pub fn measure(
     Ok(least)
 }
 
-fn measure_pass(rt: &HostRuntime, group: Group, subjects: &Subjects<'_>) -> Result<Measured> {
+fn measure_pass(rt: &HostRuntime, group: Group, subjects: Subjects<'_>) -> Result<Measured> {
     let mut watch = Watch::start(rt);
-    let answers = group.pass(rt.alloc(), subjects, &mut watch)?;
+    let answers = group.pass(rt.alloc(), subjects.patterns, subjects.jobs, &mut watch)?;
     let time = watch.time()?;
     Ok(Measured { answers, time })
 }

@@ -1,6 +1,7 @@
 //! One pass of each kind of call: over all patterns, and, if it has a start, from all starts.
 
 use crate::answers::Answers;
+use crate::watch::Watch;
 use croner::describe::Language;
 use croner::errors::CronError;
 use croner::time::Direction;
@@ -11,18 +12,52 @@ use std::alloc::Global;
 /// How many runs an iterator is asked for.
 const RUNS: u32 = 1000;
 
+/// A call of a job from a start.
+#[derive(Clone, Copy)]
+pub enum RunCall {
+    Match,
+    Next,
+    Previous,
+    Iterate,
+}
+
+impl RunCall {
+    /// What the call of each job gives from the starts. Only these calls are measured.
+    pub fn answers<T: Moment>(
+        self,
+        jobs: &[Job],
+        starts: &[T],
+        watch: &mut Watch<'_>,
+    ) -> Result<Answers, CronError> {
+        watch.restart();
+        let answers = match self {
+            RunCall::Match => matching(jobs, starts),
+            RunCall::Next => next(jobs, starts),
+            RunCall::Previous => previous(jobs, starts),
+            RunCall::Iterate => iterate(jobs, starts),
+        };
+        watch.stop();
+        answers
+    }
+}
+
+/// The job of a pattern.
+pub fn read(alloc: Global, pattern: &str) -> Result<Job, CronError> {
+    Ok(Job::new(Cron::from_str(alloc, pattern)?))
+}
+
 /// Reads each pattern. An answer is the text that the job keeps.
 pub fn parse(alloc: Global, patterns: &[String]) -> Result<Answers, CronError> {
     let mut answers = Answers::default();
     for pattern in patterns {
-        let job = Job::new(Cron::from_str(alloc, pattern.as_str())?);
+        let job = read(alloc, pattern.as_str())?;
         answers.add_text(job.cron.as_str());
     }
     Ok(answers)
 }
 
-/// Asks whether a time matches. An answer is 1 if it does, else 0.
-pub fn matching<T: Moment>(jobs: &[Job], starts: &[T]) -> Result<Answers, CronError> {
+// Asks whether a time matches. An answer is 1 if it does, else 0.
+fn matching<T: Moment>(jobs: &[Job], starts: &[T]) -> Result<Answers, CronError> {
     let mut answers = Answers::default();
     for job in jobs {
         for start in starts {
@@ -32,19 +67,27 @@ pub fn matching<T: Moment>(jobs: &[Job], starts: &[T]) -> Result<Answers, CronEr
     Ok(answers)
 }
 
-/// Searches the next run after each start. An answer is the run.
-pub fn next<T: Moment>(jobs: &[Job], starts: &[T]) -> Result<Answers, CronError> {
+// Searches the next run after each start. An answer is the run, or -1 where the search reaches the limit.
+fn next<T: Moment>(jobs: &[Job], starts: &[T]) -> Result<Answers, CronError> {
     let mut answers = Answers::default();
     for job in jobs {
         for start in starts {
-            answers.add(job.cron.find_next_occurrence(start, false)?.second());
+            answers.add(run_or_limit(job.cron.find_next_occurrence(start, false))?);
         }
     }
     Ok(answers)
 }
 
-/// Searches the previous run before each start. An answer is the run.
-pub fn previous<T: Moment>(jobs: &[Job], starts: &[T]) -> Result<Answers, CronError> {
+fn run_or_limit<T: Moment>(found: Result<T, CronError>) -> Result<i64, CronError> {
+    match found {
+        Ok(run) => Ok(run.second()),
+        Err(CronError::TimeSearchLimitExceeded) => Ok(-1),
+        Err(error) => Err(error),
+    }
+}
+
+// Searches the previous run before each start. An answer is the run.
+fn previous<T: Moment>(jobs: &[Job], starts: &[T]) -> Result<Answers, CronError> {
     let mut answers = Answers::default();
     for job in jobs {
         for start in starts {
@@ -54,8 +97,8 @@ pub fn previous<T: Moment>(jobs: &[Job], starts: &[T]) -> Result<Answers, CronEr
     Ok(answers)
 }
 
-/// Lists the first runs from the first start on, itself included. An answer is a run.
-pub fn iterate<T: Moment>(jobs: &[Job], starts: &[T]) -> Result<Answers, CronError> {
+// Lists the first runs from the first start on, itself included. An answer is a run.
+fn iterate<T: Moment>(jobs: &[Job], starts: &[T]) -> Result<Answers, CronError> {
     let mut answers = Answers::default();
     if let Some(start) = starts.first() {
         for job in jobs {
@@ -116,40 +159,4 @@ pub fn copy(jobs: &[Job]) -> Result<Answers, CronError> {
         answers.add_text(copy.cron.as_str());
     }
     Ok(answers)
-}
-
-/// Searches the next run of a job. The answer is the run, or -1 where the search reaches the limit.
-pub fn limit<T: Moment>(job: &Job, start: &T) -> Result<Answers, CronError> {
-    let mut answers = Answers::default();
-    match job.cron.find_next_occurrence(start, false) {
-        Ok(run) => answers.add(run.second()),
-        Err(CronError::TimeSearchLimitExceeded) => answers.add(-1),
-        Err(error) => return Err(error),
-    }
-    Ok(answers)
-}
-
-/// Reads each text, which may be refused. An answer is the length of the kept text in bytes, or a negative number for the refusal.
-pub fn read_hostile(alloc: Global, texts: &[String]) -> Result<Answers, CronError> {
-    let mut answers = Answers::default();
-    for text in texts {
-        answers.add(outcome(alloc, text.as_str())?);
-    }
-    Ok(answers)
-}
-
-fn outcome(alloc: Global, text: &str) -> Result<i64, CronError> {
-    match kept_bytes(alloc, text) {
-        Ok(bytes) => Ok(i64::try_from(bytes).unwrap_or(i64::MAX)),
-        Err(CronError::EmptyPattern) => Ok(-1),
-        Err(CronError::InvalidPattern(_)) => Ok(-2),
-        Err(CronError::IllegalCharacters(_)) => Ok(-3),
-        Err(CronError::ComponentError(_)) => Ok(-4),
-        Err(error) => Err(error),
-    }
-}
-
-fn kept_bytes(alloc: Global, text: &str) -> Result<usize, CronError> {
-    let job = Job::new(Cron::from_str(alloc, text)?);
-    Ok(job.cron.as_str().len())
 }

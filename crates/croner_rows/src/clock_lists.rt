@@ -1,8 +1,7 @@
 //! Clocks of one kind, and calls that are made over them.
 
 use crate::{
-    Caller, Fault, Outcome, Result, clock_table, list, member, narrow_time, number, parts,
-    read_rule, switch,
+    Caller, Fault, Result, list, member, narrow_time, number, parts, read_rule, switch, table_of,
 };
 use croner::Clocked;
 use croner::time::table::{ClockTable, TableTime};
@@ -14,8 +13,13 @@ use std::alloc::{AllocError, Global};
 
 /// Calls that are made over clocks of any kind.
 pub trait OverClocks {
-    /// Makes the calls over a time on each clock, and returns what they gave.
-    fn outcome<T: Clocked>(&self, caller: Caller<'_>, clocks: &[T]) -> Result<Outcome>;
+    /// Makes the calls over a time on each clock, and returns what they answer. What comes after them is added to `after`.
+    fn answer<T: Clocked>(
+        &self,
+        caller: Caller<'_>,
+        clocks: &[T],
+        after: &mut String,
+    ) -> Result<Value>;
 }
 
 /// Makes calls over the clocks of a question's member `zones`. All are of the kind of the first: civil time (null), a rule, or a table.
@@ -25,53 +29,59 @@ pub fn over_clocks<C: OverClocks>(
     caller: Caller<'_>,
     question: &Value,
     calls: &C,
-) -> Result<Outcome> {
+    after: &mut String,
+) -> Result<Value> {
     let zones = list(question, "zones")?;
     match zones.first() {
         None => Err(Fault::Malformed),
-        Some(Value::Null) => calls.outcome(caller, &[DateTime::MIN]),
-        Some(zone) if zone.get("rule").is_some() => over_rules(caller, zones, calls),
+        Some(Value::Null) => calls.answer(caller, &[DateTime::MIN], after),
+        Some(zone) if zone.get("rule").is_some() => over_rules(caller, zones, calls, after),
         Some(zone) => {
-            let tables = tables_of(caller.alloc, zones)?;
+            let tables = tables_of(caller.without_marks(), zones)?;
             let times = times_of(caller.alloc, zones, tables.as_slice())?;
-            over_tables(caller, zone, zones, times.as_slice(), calls)
+            over_tables(caller, (zone, zones), times.as_slice(), calls, after)
         }
     }
 }
 
-fn over_rules<C: OverClocks>(caller: Caller<'_>, zones: &[Value], calls: &C) -> Result<Outcome> {
+fn over_rules<C: OverClocks>(
+    caller: Caller<'_>,
+    zones: &[Value],
+    calls: &C,
+    after: &mut String,
+) -> Result<Value> {
     let mut clocks = Vec::new(caller.alloc);
     for zone in zones {
         let rule = read_rule(member(zone, "rule")?)?;
         clocks.push(Zoned::new(Timestamp::UNIX_EPOCH, rule))?;
     }
-    calls.outcome(caller, clocks.as_slice())
+    calls.answer(caller, clocks.as_slice(), after)
 }
 
 fn over_tables<C: OverClocks>(
     caller: Caller<'_>,
-    first: &Value,
-    zones: &[Value],
+    (first, zones): (&Value, &[Value]),
     times: &[TableTime<'_>],
     calls: &C,
-) -> Result<Outcome> {
+    after: &mut String,
+) -> Result<Value> {
     if switch(first, "asking")? {
         let clocks = asking_times(caller.alloc, times)?;
-        return calls.outcome(caller, clocks.as_slice());
+        return calls.answer(caller, clocks.as_slice(), after);
     }
     match first.get("held") {
-        None => calls.outcome(caller, times),
+        None => calls.answer(caller, times, after),
         Some(_) => {
             let clocks = narrow_times(caller.alloc, zones, times)?;
-            calls.outcome(caller, clocks.as_slice())
+            calls.answer(caller, clocks.as_slice(), after)
         }
     }
 }
 
-fn tables_of(alloc: Global, zones: &[Value]) -> Result<Vec<ClockTable>> {
-    let mut tables = Vec::new(alloc);
+fn tables_of(caller: Caller<'_>, zones: &[Value]) -> Result<Vec<ClockTable>> {
+    let mut tables = Vec::new(caller.alloc);
     for zone in zones {
-        tables.push(clock_table(alloc, zone)?)?;
+        tables.push(table_of(caller, zone)?)?;
     }
     Ok(tables)
 }

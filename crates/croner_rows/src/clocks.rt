@@ -1,34 +1,63 @@
 //! Clocks: civil time, tables and rules, and calls that are made over a time of any of them.
 
 use crate::{
-    Caller, Fault, Moment, Outcome, Result, civil_value, list, member, number, number_at, parts,
-    switch, word,
+    Caller, Fault, Moment, Result, civil_value, list, member, number, number_at, parts, read_rule,
+    switch, table_in_window,
 };
 use croner::time::table::{ClockTable, TableTime};
 use croner_backends::{BoxedTime, NarrowTime};
 use jiff::civil::DateTime;
-use jiff::tz::TimeZone;
 use jiff::{Timestamp, Zoned};
 use serde_json::Value;
 use std::alloc::{AllocError, Global};
 
 /// Calls that are made over a time of any clock.
 pub trait OverTime {
-    /// Makes the calls, and returns what they gave.
-    fn outcome<T: Moment>(&self, caller: Caller<'_>, time: T) -> Result<Outcome>;
+    /// Makes the calls, and returns what they answer. What was lent to them is added to `after`, as it is afterwards.
+    fn answer<T: Moment>(&self, caller: Caller<'_>, time: T, after: &mut String) -> Result<Value>;
 }
 
-/// Makes calls over the start of a question, on the clock of its member `zone`: civil time if there is none, a rule, or a table.
-/// A table that is `boxed` is over the backend that takes memory for each answer, and one that is `held` over the backend that
+/// Makes calls over the start of a question, on the clock of its member `zone`: civil time if there is none, a rule, or a table,
+/// which may be that of a zone in a window. A table that is `boxed` is over the backend that takes memory for each answer, and one that is `held` over the backend that
 /// holds only what lies between two instants.
-pub fn over_time<C: OverTime>(caller: Caller<'_>, question: &Value, calls: &C) -> Result<Outcome> {
+pub fn over_time<C: OverTime>(
+    caller: Caller<'_>,
+    question: &Value,
+    calls: &C,
+    after: &mut String,
+) -> Result<Value> {
     match question.get("zone") {
-        None | Some(Value::Null) => calls.outcome(caller, civil_start(question)?),
-        Some(zone) => match zone.get("rule") {
-            Some(rule) => calls.outcome(caller, zoned_clock(rule, question)?),
-            None => over_table(caller, question, zone, calls),
+        None | Some(Value::Null) => calls.answer(caller, civil_start(question)?, after),
+        Some(zone) => match (zone.get("window"), zone.get("rule")) {
+            (None, Some(rule)) => calls.answer(caller, zoned_clock(rule, question)?, after),
+            _ => over_table(caller, question, zone, calls, after),
         },
     }
+}
+
+fn second_and_nanosecond(parts: &[Value]) -> Result<(i64, i32)> {
+    let [second, nanosecond] = parts else {
+        return Err(Fault::Malformed);
+    };
+    Ok((number(second)?, number(nanosecond)?))
+}
+
+/// The table of a clock, or its refusal: that of a zone in its member `window`, or else of the members `first` and `changes`. It is
+/// made between marks.
+pub fn table_of(caller: Caller<'_>, clock: &Value) -> Result<ClockTable> {
+    match clock.get("window") {
+        Some(window) => table_in_window(caller, clock, window),
+        None => table_of_changes(caller, clock),
+    }
+}
+
+fn table_of_changes(caller: Caller<'_>, clock: &Value) -> Result<ClockTable> {
+    let first = number_at(clock, "first")?;
+    let changes = clock_changes(caller.alloc, clock)?;
+    caller.begin();
+    let table = ClockTable::new(first, changes);
+    caller.end();
+    Ok(table?)
 }
 
 fn over_table<C: OverTime>(
@@ -36,15 +65,16 @@ fn over_table<C: OverTime>(
     question: &Value,
     zone: &Value,
     calls: &C,
-) -> Result<Outcome> {
-    let table = clock_table(caller.alloc, zone)?;
+    after: &mut String,
+) -> Result<Value> {
+    let table = table_of(caller.without_marks(), zone)?;
     let start = TableTime::new(&table, start_second(question)?)?;
     if switch(zone, "boxed")? {
-        return calls.outcome(caller, BoxedTime::new(caller.alloc, start)?);
+        return calls.answer(caller, BoxedTime::new(caller.alloc, start)?, after);
     }
     match zone.get("held") {
-        None => calls.outcome(caller, start),
-        Some(held) => calls.outcome(caller, narrow_time(start, held)?),
+        None => calls.answer(caller, start, after),
+        Some(held) => calls.answer(caller, narrow_time(start, held)?, after),
     }
 }
 
@@ -75,28 +105,15 @@ fn zoned_clock(rule: &Value, question: &Value) -> Result<Zoned<'static>> {
 
 // The start as a second, or as a second and a nanosecond of it.
 fn start_instant(question: &Value) -> Result<Timestamp> {
-    let start = question.get("start").and_then(Value::as_array);
-    let (second, nanosecond) = match start.map(Vec::as_slice) {
-        None => (start_second(question)?, 0),
-        Some([second, nanosecond]) => (number(second)?, number(nanosecond)?),
-        Some(_) => return Err(Fault::Malformed),
+    let (second, nanosecond) = match question.get("start") {
+        Some(Value::Array(parts)) => second_and_nanosecond(parts.as_slice())?,
+        _ => (start_second(question)?, 0),
     };
     Ok(Timestamp::new(second, nanosecond)?)
 }
 
-/// The zone of a rule.
-pub fn read_rule(rule: &Value) -> Result<TimeZone<'static>> {
-    Ok(TimeZone::posix(word(rule)?)?)
-}
-
-/// The table of the members `first` and `changes`, or its refusal.
-pub fn clock_table(alloc: Global, zone: &Value) -> Result<ClockTable> {
-    let changes = clock_changes(alloc, zone)?;
-    Ok(ClockTable::new(number_at(zone, "first")?, changes)?)
-}
-
-/// The changes of a table, each its instant and its offset, or a series of them.
-pub fn clock_changes(alloc: Global, zone: &Value) -> Result<Vec<(i64, i32)>> {
+// The changes of a table, each its instant and its offset, or a series of them.
+fn clock_changes(alloc: Global, zone: &Value) -> Result<Vec<(i64, i32)>> {
     let mut changes = Vec::new(alloc);
     for change in list(zone, "changes")? {
         if change.is_object() {

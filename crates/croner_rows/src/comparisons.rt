@@ -1,8 +1,7 @@
 //! Equality, order and hash of jobs and of iterators, which take no memory.
 
 use crate::{
-    Caller, Fault, How, Job, Outcome, Result, Runs, Subject, civil_value, hash_of, member, shown,
-    switch,
+    Caller, Fault, How, Job, Result, Runs, Subject, civil_value, hash_of, member, shown, switch,
 };
 use jiff::civil::DateTime;
 use serde_json::Value;
@@ -11,7 +10,7 @@ use std::cmp::Ordering;
 use std::hash::Hash;
 
 /// Two jobs: their order, whether they are equal, and whether they are hashed alike.
-pub fn of_jobs(caller: Caller<'_>, question: &Value) -> Result<Outcome> {
+pub fn of_jobs(caller: Caller<'_>, question: &Value) -> Result<Value> {
     let one = Job::read(caller.alloc, member(question, "a")?)?;
     let other = Job::read(caller.alloc, member(question, "b")?)?;
     caller.begin();
@@ -21,7 +20,7 @@ pub fn of_jobs(caller: Caller<'_>, question: &Value) -> Result<Outcome> {
 }
 
 /// Two iterators over the runs of a job from a start: their order, whether they are equal, and whether they are hashed alike.
-pub fn of_iterators(caller: Caller<'_>, question: &Value) -> Result<Outcome> {
+pub fn of_iterators(caller: Caller<'_>, question: &Value) -> Result<Value> {
     let job = Job::read(caller.alloc, question)?;
     let one = asked_runs(&job, question, "a")?;
     let other = asked_runs(&job, question, "b")?;
@@ -50,13 +49,13 @@ fn comparison<T: PartialEq + Hash>(
     one: &T,
     other: &T,
     order: Option<Ordering>,
-) -> Result<Outcome> {
+) -> Result<Value> {
     caller.begin();
     let (equal, alike) = (*one == *other, hash_of(one) == hash_of(other));
     caller.end();
     let order = order_or_null(caller.alloc, order)?;
     let text = format!(in caller.alloc; "{{\"cmp\":{order},\"eq\":{equal},\"hash\":{alike}}}");
-    Outcome::of_text(caller.alloc, text)
+    shown::object(caller.alloc, text)
 }
 
 fn order_or_null(alloc: Global, order: Option<Ordering>) -> Result<Value> {

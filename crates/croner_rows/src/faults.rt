@@ -1,8 +1,10 @@
 //! Why a question has no answer of its own.
 
+use crate::Result;
 use crate::shown::refusal;
 use croner::errors::CronError;
 use std::alloc::{AllocError, AllocFailed};
+use std::process::ExitCode;
 use std::{fmt, io};
 
 /// Why a question has no answer of its own.
@@ -73,5 +75,18 @@ impl From<AllocError> for Fault {
 impl<T: Drop> From<AllocFailed<T>> for Fault {
     fn from(_error: AllocFailed<T>) -> Fault {
         Fault::OutOfMemory
+    }
+}
+
+/// The status of a tool: success if it came to its end and all was well. What ended it earlier is written to standard error.
+pub fn status(rt: &HostRuntime, ended: Result<bool>) -> io::Result<ExitCode> {
+    match ended {
+        Ok(true) => Ok(ExitCode::SUCCESS),
+        Ok(false) => Ok(ExitCode::FAILURE),
+        Err(Fault::Failed(error)) => Err(error),
+        Err(fault) => {
+            eprintln!(rt; "{fault}")?;
+            Ok(ExitCode::FAILURE)
+        }
     }
 }

@@ -1,8 +1,6 @@
 //! Calls of one field.
 
-use crate::{
-    Answer, Caller, Fault, Outcome, Result, items, list, member, number, parts, shown, word,
-};
+use crate::{Caller, Fault, Result, items, list, member, number, parts, shown, word};
 use croner::CronComponent;
 use croner::component::{ALL_BIT, LAST_BIT};
 use croner::errors::CronError;
@@ -115,8 +113,8 @@ pub fn are_alike<T: Ord + Hash>(one: &T, other: &T) -> bool {
 }
 
 // What a call answers, as a JSON value.
-fn given_value(alloc: Global, given: Result<Given>) -> Result<Value> {
-    match given? {
+fn given_value(alloc: Global, given: Given) -> Result<Value> {
+    match given {
         Given::Done => shown::text(alloc, "ok"),
         Given::Value(value) => Ok(value),
         Given::Values(values) => shown::numbers(alloc, values.as_slice()),
@@ -153,24 +151,36 @@ pub fn read_field(alloc: Global, question: &Value) -> Result<CronComponent> {
 }
 
 /// The answer of one call of a new field, and what the field holds afterwards.
-pub fn call_of_field(caller: Caller<'_>, question: &Value) -> Result<Outcome> {
+pub fn call_of_field(caller: Caller<'_>, question: &Value, after: &mut String) -> Result<Value> {
     let call = member(question, "call")?;
     let mut field = read_field(caller.alloc, question)?;
-    caller.begin();
-    let given = make(caller.alloc, &mut field, call);
-    caller.end();
-    let answer = given_value(caller.alloc, given).map(Answer::Value);
-    let outcome = Outcome::new(answer, shown::field(caller.alloc, &field));
+    let answer = answer_of_call(caller, &mut field, call, after);
     drop(field);
-    outcome
+    answer
+}
+
+fn answer_of_call(
+    caller: Caller<'_>,
+    field: &mut CronComponent,
+    call: &Value,
+    after: &mut String,
+) -> Result<Value> {
+    caller.begin();
+    let given = make(caller.alloc, field, call);
+    caller.end();
+    shown::add_field(caller.alloc, field, after)?;
+    given_value(caller.alloc, given?)
 }
 
 /// The answers of calls of a field in turn, as a list; if one is refused, the refusal.
 pub fn calls_in_turn(alloc: Global, field: &mut CronComponent, question: &Value) -> Result<Value> {
     let mut answers = Vec::new(alloc);
     for call in list(question, "calls")? {
-        let given = make(alloc, field, call);
-        answers.push(shown::answer_or_refusal(alloc, given_value(alloc, given))?)?;
+        answers.push(shown::answer_or_refusal(alloc, answer_of_one(alloc, field, call))?)?;
     }
     Ok(Value::Array(answers))
+}
+
+fn answer_of_one(alloc: Global, field: &mut CronComponent, call: &Value) -> Result<Value> {
+    given_value(alloc, make(alloc, field, call)?)
 }

@@ -91,10 +91,13 @@ pub fn read_parser(question: &Value) -> Result<CronParser> {
 // Which of three values the presence of a field is: `"optional"` (also if it is left out), `"required"` or `"disallowed"`.
 fn presence<P: Copy>(settings: &Value, field: &str, of: [P; 3]) -> Result<P> {
     let [optional, required, disallowed] = of;
-    match settings.get(field).map(Value::as_str) {
-        None | Some(Some("optional")) => Ok(optional),
-        Some(Some("required")) => Ok(required),
-        Some(Some("disallowed")) => Ok(disallowed),
-        Some(_) => Err(Fault::Malformed),
+    let Some(presence) = settings.get(field) else {
+        return Ok(optional);
+    };
+    match presence.as_str() {
+        Some("optional") => Ok(optional),
+        Some("required") => Ok(required),
+        Some("disallowed") => Ok(disallowed),
+        _ => Err(Fault::Malformed),
     }
 }

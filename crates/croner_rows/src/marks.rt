@@ -3,25 +3,40 @@
 use std::alloc::Global;
 use std::io::Write;
 
-/// Who makes the calls of a question: the allocator for them, and whether there are marks before and after them on standard
-/// error, for a program that refuses their requests for memory.
+/// Who makes the calls of a question: the runtime, the allocator for them, and whether there are marks before and after them on
+/// standard error, for a program that refuses their requests for memory.
 #[derive(Clone, Copy)]
 pub struct Caller<'r> {
+    pub rt: &'r HostRuntime,
     pub alloc: Global,
-    marking: Option<&'r HostRuntime>,
+    is_marking: bool,
 }
 
 impl<'r> Caller<'r> {
     /// A caller that makes no marks.
-    pub fn without_marks(alloc: Global) -> Caller<'r> {
-        let marking = None;
-        Caller { alloc, marking }
+    pub fn new(rt: &'r HostRuntime) -> Caller<'r> {
+        let (alloc, is_marking) = (rt.alloc(), false);
+        Caller {
+            rt,
+            alloc,
+            is_marking,
+        }
     }
 
-    /// A caller that makes marks.
-    pub fn with_marks(rt: &'r HostRuntime) -> Caller<'r> {
-        let (alloc, marking) = (rt.alloc(), Some(rt));
-        Caller { alloc, marking }
+    /// The caller that makes marks.
+    pub fn with_marks(self) -> Caller<'r> {
+        Caller {
+            is_marking: true,
+            ..self
+        }
+    }
+
+    /// The caller that makes no marks.
+    pub fn without_marks(self) -> Caller<'r> {
+        Caller {
+            is_marking: false,
+            ..self
+        }
     }
 
     /// From here on requests are counted, and one may be refused.
@@ -36,8 +51,8 @@ impl<'r> Caller<'r> {
 
     // If a mark can't be written, whoever counts will miss it.
     fn mark(self, text: &str) {
-        if let Some(rt) = self.marking {
-            let _ = rt.stderr().write_all(text.as_bytes());
+        if self.is_marking {
+            let _ = self.rt.stderr().write_all(text.as_bytes());
         }
     }
 }

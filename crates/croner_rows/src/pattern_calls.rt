@@ -1,11 +1,10 @@
 //! Calls of one pattern: what its fields match.
 
 use crate::{
-    Answer, Caller, Fault, Job, Outcome, Result, direction, number_at, shown, text, three_numbers,
-    weekday, word,
+    Caller, Fault, Job, Result, direction, number_at, shown, text, three_numbers, weekday, word,
 };
 use croner::time::TimeComponent;
-use croner::{Cron, CronComponent, CronPattern};
+use croner::{CronComponent, CronPattern};
 use serde_json::Value;
 
 /// A part of a date and time by its name.
@@ -86,25 +85,20 @@ pub fn field_at<'p>(pattern: &'p mut CronPattern, name: &str) -> Result<&'p mut 
 }
 
 /// A call of the pattern of a text, with one of its fields emptied if the question names it; and what the pattern holds afterwards.
-pub fn call_of_pattern(caller: Caller<'_>, question: &Value, op: &str) -> Result<Outcome> {
-    let Cron { mut pattern } = Job::read(caller.alloc, question)?.into_cron();
-    let outcome = outcome_of_call(caller, &mut pattern, question, op);
-    drop(pattern);
-    outcome
-}
-
-fn outcome_of_call(
+pub fn call_of_pattern(
     caller: Caller<'_>,
-    pattern: &mut CronPattern,
     question: &Value,
     op: &str,
-) -> Result<Outcome> {
+    after: &mut String,
+) -> Result<Value> {
+    let mut job = Job::read(caller.alloc, question)?;
+    let pattern = &mut job.cron.pattern;
     if let Some(name) = question.get("emptied") {
         *field_at(pattern, word(name)?)? = CronComponent::default(caller.alloc);
     }
     caller.begin();
     let answer = answer_of_call(pattern, question, op);
     caller.end();
-    let after = shown::pattern(caller.alloc, pattern);
-    Outcome::new(answer.map(Answer::Value), after)
+    shown::add_pattern(caller.alloc, pattern, after)?;
+    answer
 }

@@ -81,6 +81,14 @@ pub fn object(alloc: Global, text: Result<String, AllocError>) -> Result<Value> 
     json(alloc, text.as_bytes())
 }
 
+/// A value as a text; that of a text is without quotes.
+pub fn bare(alloc: Global, value: Value) -> Result<String> {
+    match value {
+        Value::String(text) => Ok(text),
+        value => Ok(value.to_string(alloc)?),
+    }
+}
+
 /// Two values as a list.
 pub fn pair(alloc: Global, one: Value, other: Value) -> Result<Value> {
     let mut both = Vec::new(alloc);
@@ -242,4 +250,22 @@ pub fn job(alloc: Global, cron: &Cron) -> Result<String> {
     let kind = job_type(cron.determine_job_type());
     let kind = format!(in alloc; ",\"job_type\":\"{kind}\"")?;
     held_text(alloc, &cron.pattern, kind.as_str())
+}
+
+/// Adds what a field holds to a text.
+pub fn add_field(alloc: Global, component: &CronComponent, text: &mut String) -> Result<()> {
+    let held = field(alloc, component)?;
+    Ok(text.push_str(held.as_str())?)
+}
+
+/// Adds what a pattern holds to a text.
+pub fn add_pattern(alloc: Global, pattern: &CronPattern, text: &mut String) -> Result<()> {
+    let held = held_text(alloc, pattern, "")?;
+    Ok(text.push_str(held.as_str())?)
+}
+
+/// Adds what a job holds to a text.
+pub fn add_job(alloc: Global, cron: &Cron, text: &mut String) -> Result<()> {
+    let held = job(alloc, cron)?;
+    Ok(text.push_str(held.as_str())?)
 }

@@ -1,10 +1,10 @@
 //! Whose runs are asked for, those of a job or of a table of jobs: searches and iterators over them.
 
 use crate::{Caller, Fault, Job, Moment, Result, list, number_at, shown, text};
-use croner::CronIterator;
 use croner::crontable::{CronTable, CronTableIterator};
 use croner::errors::CronError;
 use croner::time::Direction;
+use croner::{Cron, CronIterator};
 use serde_json::Value;
 use std::alloc::Global;
 
@@ -23,7 +23,8 @@ pub struct Run<T> {
 }
 
 impl<T: Moment> Run<T> {
-    fn new(instant: T, places: Option<Vec<usize>>) -> Run<T> {
+    /// A run.
+    pub fn new(instant: T, places: Option<Vec<usize>>) -> Run<T> {
         Run { instant, places }
     }
 
@@ -175,10 +176,15 @@ impl<'j, T: Moment> Runs<'j, T> {
         matches!(self.fault(), Some(CronError::OutOfMemory))
     }
 
-    /// The answer of one call: where a fault is kept after it, the name of the fault, and else the item, or null for None. Lack
-    /// of memory is a fault.
+    /// The answer of one call.
     pub fn item(&mut self, alloc: Global) -> Result<Value> {
         let run = self.next();
+        self.shown(alloc, run)
+    }
+
+    /// The answer of a call that gave this: where a fault is kept, the name of the fault, and else the item, or null for None. Lack
+    /// of memory is a fault.
+    pub fn shown(&self, alloc: Global, run: Option<Run<T>>) -> Result<Value> {
         if let Some(fault) = self.fault() {
             return shown::refusal_value(alloc, fault);
         }
@@ -232,12 +238,19 @@ fn change_jobs(
     by: Option<Job>,
 ) -> Result<Option<Job>> {
     match (change, by) {
-        ("replace", Some(by)) => Ok(jobs.replace(place, by.into_cron()).map(Job::new)),
-        ("remove", None) => Ok(jobs.remove(place).map(Job::new)),
+        ("replace", Some(by)) => Ok(job_out(jobs.replace(place, by.into_cron()))),
+        ("remove", None) => Ok(job_out(jobs.remove(place))),
         ("clear", None) => {
             jobs.clear();
             Ok(None)
         }
         _ => Err(Fault::Malformed),
+    }
+}
+
+fn job_out(cron: Option<Cron>) -> Option<Job> {
+    match cron {
+        Some(cron) => Some(Job::new(cron)),
+        None => None,
     }
 }

@@ -1,10 +1,8 @@
 //! Calls of a time: whether a job names it, which instants show a second, and the instant a number of seconds later.
 
 use crate::{
-    Answer, Caller, Job, Moment, Outcome, OverTime, Result, civil, civil_value, number_at,
-    over_time, shown,
+    Caller, Job, Moment, OverTime, Result, civil, civil_value, number_at, over_time, shown,
 };
-use croner::errors::CronError;
 use croner::time::{CivilDateTime, Resolution};
 use serde_json::Value;
 use std::alloc::Global;
@@ -14,38 +12,39 @@ use std::alloc::Global;
 struct Naming<'j>(&'j Job);
 
 impl<'j> OverTime for Naming<'j> {
-    fn outcome<T: Moment>(&self, caller: Caller<'_>, time: T) -> Result<Outcome> {
+    fn answer<T: Moment>(&self, caller: Caller<'_>, time: T, after: &mut String) -> Result<Value> {
         caller.begin();
         let answer = self.0.cron.is_time_matching(&time);
         caller.end();
-        Outcome::new(
-            truth_answer(answer),
-            time_and_job(caller.alloc, &time, self.0),
-        )
+        add_time_and_job(caller.alloc, &time, self.0, after)?;
+        Ok(Value::Bool(answer?))
     }
 }
 
-fn truth_answer(answer: Result<bool, CronError>) -> Result<Answer> {
-    Ok(Answer::Value(Value::Bool(answer?)))
+/// Adds a time and a job to a text.
+pub fn add_time_and_job<T: Moment>(
+    alloc: Global,
+    time: &T,
+    job: &Job,
+    text: &mut String,
+) -> Result<()> {
+    add_time(alloc, time, text)?;
+    text.push_str(" ")?;
+    shown::add_job(alloc, &job.cron, text)
 }
 
-/// A time and a job as texts.
-pub fn time_and_job<T: Moment>(alloc: Global, time: &T, job: &Job) -> Result<String> {
-    let (time, job) = (bare_text(alloc, time)?, shown::job(alloc, &job.cron)?);
-    Ok(format!(in alloc; "{time} {job}")?)
-}
-
-/// A time as a text without quotes.
-pub fn bare_text<T: Moment>(alloc: Global, time: &T) -> Result<String> {
-    Answer::Value(time.shown(alloc)?).into_text(alloc)
+/// Adds a time to a text, without quotes.
+pub fn add_time<T: Moment>(alloc: Global, time: &T, text: &mut String) -> Result<()> {
+    let time = shown::bare(alloc, time.shown(alloc)?)?;
+    Ok(text.push_str(time.as_str())?)
 }
 
 /// Whether a job names the start of a question, or, if there is none, its date and time `at` in civil time.
-pub fn matching(caller: Caller<'_>, question: &Value) -> Result<Outcome> {
+pub fn matching(caller: Caller<'_>, question: &Value, after: &mut String) -> Result<Value> {
     let job = Job::read(caller.alloc, question)?;
     match question.get("at") {
-        None => over_time(caller, question, &Naming(&job)),
-        Some(_) => Naming(&job).outcome(caller, civil_value(question, "at")?),
+        None => over_time(caller, question, &Naming(&job), after),
+        Some(_) => Naming(&job).answer(caller, civil_value(question, "at")?, after),
     }
 }
 
@@ -54,21 +53,13 @@ pub fn matching(caller: Caller<'_>, question: &Value) -> Result<Outcome> {
 struct Resolving(CivilDateTime);
 
 impl OverTime for Resolving {
-    fn outcome<T: Moment>(&self, caller: Caller<'_>, time: T) -> Result<Outcome> {
+    fn answer<T: Moment>(&self, caller: Caller<'_>, time: T, after: &mut String) -> Result<Value> {
         caller.begin();
         let found = time.resolve_civil(caller.alloc, self.0);
         caller.end();
-        let found = found_instants(caller.alloc, found);
-        Outcome::new(found, bare_text(caller.alloc, &time))
+        add_time(caller.alloc, &time, after)?;
+        instants(caller.alloc, &found?)
     }
-}
-
-fn found_instants<T: Moment>(
-    alloc: Global,
-    found: Result<Resolution<T>, CronError>,
-) -> Result<Answer> {
-    let found = found?;
-    Ok(Answer::Value(instants(alloc, &found)?))
 }
 
 /// The instants that a date and time names, ascending.
@@ -86,9 +77,9 @@ pub fn instants<T: Moment>(alloc: Global, found: &Resolution<T>) -> Result<Value
 }
 
 /// The instants of a date and time, and the start of the question afterwards.
-pub fn resolve(caller: Caller<'_>, question: &Value) -> Result<Outcome> {
+pub fn resolve(caller: Caller<'_>, question: &Value, after: &mut String) -> Result<Value> {
     let at = civil(question, "at")?;
-    over_time(caller, question, &Resolving(at))
+    over_time(caller, question, &Resolving(at), after)
 }
 
 // A time so many seconds on.
@@ -96,23 +87,20 @@ pub fn resolve(caller: Caller<'_>, question: &Value) -> Result<Outcome> {
 struct Adding(i64);
 
 impl OverTime for Adding {
-    fn outcome<T: Moment>(&self, caller: Caller<'_>, time: T) -> Result<Outcome> {
+    fn answer<T: Moment>(&self, caller: Caller<'_>, time: T, after: &mut String) -> Result<Value> {
         caller.begin();
         let sum = time.checked_add_seconds(caller.alloc, self.0);
         caller.end();
-        Outcome::new(sum_found(caller.alloc, sum), bare_text(caller.alloc, &time))
-    }
-}
-
-fn sum_found<T: Moment>(alloc: Global, sum: Result<Option<T>, CronError>) -> Result<Answer> {
-    match sum? {
-        Some(time) => Ok(Answer::Value(time.shown(alloc)?)),
-        None => Ok(Answer::Value(Value::Null)),
+        add_time(caller.alloc, &time, after)?;
+        match sum? {
+            Some(time) => time.shown(caller.alloc),
+            None => Ok(Value::Null),
+        }
     }
 }
 
 /// The instant a number of seconds later, or null, and the start of the question afterwards.
-pub fn add(caller: Caller<'_>, question: &Value) -> Result<Outcome> {
+pub fn add(caller: Caller<'_>, question: &Value, after: &mut String) -> Result<Value> {
     let seconds = number_at(question, "seconds")?;
-    over_time(caller, question, &Adding(seconds))
+    over_time(caller, question, &Adding(seconds), after)
 }

@@ -3,17 +3,18 @@
 use crate::values::values;
 use croner::errors::CronError;
 use croner::parser::{FaultKind, PatternFault};
-use croner_rows::{Fault, Job, Result, read_parser, shown, text};
+use croner_rows::{Caller, Fault, Job, Result, read_parser, shown, text};
 use serde_json::Value;
 use std::alloc::Global;
 
 /// The place of the fault in bytes, and the message of a refused text; `"accepted"` where neither `explain` nor `parse` refuses it.
-pub fn explain(alloc: Global, question: &Value) -> Result<Value> {
+pub fn explain(caller: Caller<'_>, question: &Value) -> Result<Value> {
     let (parser, text) = (read_parser(question)?, text(question, "text")?);
-    match (
-        parser.explain(alloc, text)?,
-        Job::of_text(alloc, question, text),
-    ) {
+    let alloc = caller.alloc;
+    caller.begin();
+    let explained = parser.explain(alloc, text);
+    caller.end();
+    match (explained?, Job::of_text(alloc, question, text)) {
         (Some(fault), Err(Fault::Refused(error))) => told_message(alloc, &fault, &error),
         (None, Ok(_)) => shown::text(alloc, "accepted"),
         (Some(_), Ok(_)) => shown::text(alloc, "refused by explain alone"),

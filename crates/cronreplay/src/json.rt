@@ -1,7 +1,7 @@
 //! Jobs as JSON: how they are printed, and whether they are read back.
 
 use croner::Cron;
-use croner_rows::{Fault, Job, Result, member, printed_text, shown};
+use croner_rows::{Caller, Fault, Job, Result, member, shown};
 use serde_json::Value;
 use std::alloc::Global;
 
@@ -12,10 +12,19 @@ pub fn json_again(alloc: Global, question: &Value) -> Result<Value> {
 }
 
 /// A job's JSON as it is printed, and whether the parser of the question reads an equal job with the same text from its
-/// text.
-pub fn reread(alloc: Global, question: &Value, job: &Job) -> Result<Value> {
-    let again = is_read_again(alloc, question, &job.cron)?;
-    let json = Value::String(printed_text(alloc, &job.cron.to_json()?)?);
+/// text; and the job afterwards.
+pub fn reread(caller: Caller<'_>, question: &Value, after: &mut String) -> Result<Value> {
+    let job = Job::read(caller.alloc, question)?;
+    caller.begin();
+    let json = job.cron.to_json();
+    caller.end();
+    shown::add_job(caller.alloc, &job.cron, after)?;
+    printed_and_read(caller.alloc, question, &job.cron, &json?)
+}
+
+fn printed_and_read(alloc: Global, question: &Value, cron: &Cron, json: &Value) -> Result<Value> {
+    let json = Value::String(json.to_string(alloc)?);
+    let again = is_read_again(alloc, question, cron)?;
     let answer = format!(in alloc; "{{\"json\":{json},\"again\":{again}}}");
     shown::object(alloc, answer)
 }

@@ -12,8 +12,8 @@ use croner_backends::laws::searches::{nearest_boxed_run, nearest_narrow_run};
 use croner_backends::{BoxedTime, NarrowTime};
 use croner_rows::shown::times;
 use croner_rows::{
-    Fault, How, Job, Moment, Result, Runs, Subject, civil_value, clock_table, member, narrow_time,
-    number_at, read_parser, shown, text,
+    Caller, Fault, How, Job, Moment, Result, Runs, Subject, civil_value, member, narrow_time,
+    number_at, read_parser, shown, table_of, text,
 };
 use jiff::civil::DateTime;
 use serde_json::Value;
@@ -23,11 +23,12 @@ use std::alloc::Global;
 const CALLS: u32 = 3;
 
 /// What the law of a question gives.
-pub fn law(alloc: Global, question: &Value) -> Result<Value> {
+pub fn law(caller: Caller<'_>, question: &Value) -> Result<Value> {
+    let alloc = caller.alloc;
     match text(question, "law")? {
         "read_twice" => texts_read(alloc, question),
         "equal_and_described" => descriptions(alloc, question),
-        name => law_of_job(alloc, question, name, &Job::read(alloc, question)?),
+        name => law_of_job(caller, question, name, &Job::read(alloc, question)?),
     }
 }
 
@@ -50,12 +51,13 @@ fn descriptions(alloc: Global, question: &Value) -> Result<Value> {
     shown::object(alloc, answer)
 }
 
-fn law_of_job(alloc: Global, question: &Value, name: &str, job: &Job) -> Result<Value> {
+fn law_of_job(caller: Caller<'_>, question: &Value, name: &str, job: &Job) -> Result<Value> {
+    let alloc = caller.alloc;
     match name {
         "next_runs" => runs(alloc, job, civil_value(question, "start")?),
         "items_in_order" => order(alloc, job, civil_value(question, "start")?),
         "there_and_back" => next_and_back(alloc, job, &civil_value(question, "start")?),
-        _ => over_backend(alloc, question, name, job),
+        _ => over_backend(caller, question, name, job),
     }
 }
 
@@ -93,9 +95,9 @@ fn iterator<'r, T: Moment>(runs: &'r mut Runs<'_, T>) -> Result<&'r mut CronIter
 }
 
 // The run before a start, and the runs after it, over a backend of the tests.
-fn over_backend(alloc: Global, question: &Value, name: &str, job: &Job) -> Result<Value> {
-    let zone = member(question, "zone")?;
-    let table = clock_table(alloc, zone)?;
+fn over_backend(caller: Caller<'_>, question: &Value, name: &str, job: &Job) -> Result<Value> {
+    let (alloc, zone) = (caller.alloc, member(question, "zone")?);
+    let table = table_of(caller, zone)?;
     let start = TableTime::new(&table, number_at(question, "start")?)?;
     match name {
         "boxed" => boxed(alloc, job, BoxedTime::new(alloc, start)?),

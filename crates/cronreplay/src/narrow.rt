@@ -4,21 +4,23 @@ use croner::errors::CronError;
 use croner::time::table::TableTime;
 use croner_backends::NarrowTime;
 use croner_rows::{
-    How, Job, Result, Run, Runs, Subject, clock_table, list, member, narrow_time, number_at, shown,
-    switch,
+    Caller, How, Job, Result, Run, Runs, Subject, list, member, narrow_time, number_at, shown,
+    switch, table_of,
 };
 use serde_json::Value;
 use std::alloc::Global;
 
 /// The answer for each two bounds; if the question says `once`, each answer once.
-pub fn as_bounds_move(alloc: Global, question: &Value, job: &Job) -> Result<Value> {
+pub fn as_bounds_move(caller: Caller<'_>, question: &Value) -> Result<Value> {
+    let alloc = caller.alloc;
+    let job = Job::read(alloc, question)?;
     let (how, once) = (How::read(question)?, switch(question, "once")?);
-    let table = clock_table(alloc, member(question, "zone")?)?;
+    let table = table_of(caller, member(question, "zone")?)?;
     let start = TableTime::new(&table, number_at(question, "start")?)?;
     let mut answers = Vec::new(alloc);
     for held in list(question, "bounds")? {
         let start = narrow_time(start, held)?;
-        let answer = answer_between(alloc, Subject::Job(job), how, start)?;
+        let answer = answer_between(alloc, Subject::Job(&job), how, start)?;
         if !once || !answers.contains(&answer) {
             answers.push(answer)?;
         }

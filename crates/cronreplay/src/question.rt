@@ -1,7 +1,7 @@
 //! The operations by their names.
 
 use crate::alike::alike;
-use crate::answers::{Ask, answer_from_start};
+use crate::clones::clone_of;
 use crate::command::cronrun;
 use crate::compare::compare;
 use crate::component::{component, component_compare};
@@ -9,93 +9,130 @@ use crate::debug::debug;
 use crate::explain::{explain, suggest};
 use crate::json::{json_again, reread};
 use crate::laws::law;
+use crate::listings::{items_from_start, items_of_taken_job};
 use crate::narrow::as_bounds_move;
+use crate::presets::preset;
 use crate::schedulers::scheduler;
+use crate::searches::{runs_from_start, shown_at_start};
 use crate::starts::starts;
-use crate::{tables, values};
-use croner::crontable::CronTable;
+use crate::{calendar, summaries, tables, texts, values, zones};
 use croner::time::Direction;
-use croner_rows::{Caller, Fault, Job, Result, Subject, Table, ask, clock_table, shown, text};
+use croner_rows::{Caller, Fault, Job, Result, Subject, Table, ask, text};
 use serde_json::Value;
 use std::alloc::Global;
 
-/// The answer of a question.
-pub fn answer(alloc: Global, question: &Value) -> Result<Value> {
+/// What the calls of a question answer. What was lent to them is added to `after`, as it is afterwards, or what comes after them.
+pub fn make_calls(caller: Caller<'_>, question: &Value, after: &mut String) -> Result<Value> {
     match text(question, "op")? {
+        "reread" => reread(caller, question, after),
+        "reading" => shown_at_start(caller, question, after),
+        "scheduler" => scheduler(caller, question, after),
+        "questions" => texts::questions(caller, question, after),
+        "taken_job" => items_of_taken_job(caller, question, after),
+        "summary_data" => summaries::data(caller, question, after),
+        "next" | "prev" | "iter" => calls_of_job(caller, question, after),
+        op => calls_of_kind(caller, question, op, after),
+    }
+}
+
+fn calls_of_job(caller: Caller<'_>, question: &Value, after: &mut String) -> Result<Value> {
+    let job = Job::read(caller.alloc, question)?;
+    let op = text(question, "op")?;
+    runs_of(caller, question, (Subject::Job(&job), op), after)
+}
+
+// The operations of one kind, by what their names begin with.
+fn calls_of_kind(
+    caller: Caller<'_>,
+    question: &Value,
+    op: &str,
+    after: &mut String,
+) -> Result<Value> {
+    if let Some(call) = op.strip_prefix("table_") {
+        return calls_of_table(caller, question, call, after);
+    }
+    if let Some(call) = op.strip_prefix("summary_") {
+        return summaries::call_of_summary(caller, question, call, after);
+    }
+    if let Some(kind) = op.strip_prefix("clone_of_") {
+        return clone_of(caller, question, kind, after);
+    }
+    match answer_alone(caller, question, op) {
+        Err(Fault::Unsupported) => ask(caller, question, op, after),
+        answer => answer,
+    }
+}
+
+fn calls_of_table(
+    caller: Caller<'_>,
+    question: &Value,
+    call: &str,
+    after: &mut String,
+) -> Result<Value> {
+    match call {
+        "push" => tables::push(caller, question, after),
+        "change" => tables::change(caller, question),
+        "place" => tables::place(caller, question),
+        "taken_up" => tables::items_taken_up(caller.alloc, question),
+        call => {
+            let table = Table::read(caller.alloc, question)?;
+            runs_of(caller, question, (Subject::Table(&table.jobs), call), after)
+        }
+    }
+}
+
+// The runs of a subject.
+fn runs_of(
+    caller: Caller<'_>,
+    question: &Value,
+    (subject, op): (Subject<'_>, &str),
+    after: &mut String,
+) -> Result<Value> {
+    match op {
+        "next" => runs_from_start(caller, question, subject, Direction::Forward, after),
+        "prev" => runs_from_start(caller, question, subject, Direction::Backward, after),
+        "iter" => items_from_start(caller, question, subject, after),
+        _ => Err(Fault::Unsupported),
+    }
+}
+
+// The operations that are lent nothing.
+fn answer_alone(caller: Caller<'_>, question: &Value, op: &str) -> Result<Value> {
+    let alloc = caller.alloc;
+    match op {
+        "bounds" => as_bounds_move(caller, question),
+        "readings" => zones::readings(caller, question),
+        "zone_compare" => zones::compare(caller, question),
+        "calendar" => calendar::calendar(caller, question),
+        "weekday" => calendar::weekday(caller, question),
+        "time_of_day" => calendar::clock_face(caller, question),
+        "date_and_time" => calendar::date_and_time(caller, question),
+        "clock_table" => calendar::clock_table(caller, question),
+        "new_field" => texts::new_field(caller, question),
+        "parser" => texts::parser(caller, question),
+        "explain" => explain(caller, question),
+        "words" => values::words_of_language(caller, question),
+        "law" => law(caller, question),
+        "starts" => starts(caller, question),
+        op => answer_of_value(alloc, question, op),
+    }
+}
+
+// Those whose calls are made without marks.
+fn answer_of_value(alloc: Global, question: &Value, op: &str) -> Result<Value> {
+    match op {
         "component" => component(alloc, question),
         "component_compare" => component_compare(alloc, question),
         "compare" => compare(alloc, question),
-        "explain" => explain(alloc, question),
         "suggest" => suggest(alloc, question),
         "json_again" => json_again(alloc, question),
-        "reading" => answer_on_clock(alloc, question, Ask::Reading),
-        "clock_table" => table_made(alloc, question),
         "cronrun" => cronrun(alloc, question),
         "debug" => debug(alloc, question),
         "component_number" => values::number_of_part(question),
-        "shift" => values::shifted_weekday(question),
-        "date" => values::date(alloc, question),
-        "words" => values::words_of_language(alloc, question),
-        "law" => law(alloc, question),
-        "table_change" => tables::change(alloc, question),
-        "scheduler" => scheduler(alloc, question),
-        "starts" => starts(alloc, question),
-        "alike" => alike(alloc, question),
-        op => match op.strip_prefix("table_") {
-            Some(op) => answer_on_table(alloc, question, op, &Table::read(alloc, question)?.jobs),
-            None => answer_of_job(alloc, question, op),
-        },
-    }
-}
-
-fn answer_on_clock(alloc: Global, question: &Value, ask: Ask<'_>) -> Result<Value> {
-    answer_from_start(Caller::without_marks(alloc), question, ask)?.into_value(alloc)
-}
-
-// Whether a table is accepted.
-fn table_made(alloc: Global, question: &Value) -> Result<Value> {
-    let _table = clock_table(alloc, question)?;
-    shown::text(alloc, "ok")
-}
-
-fn answer_on_table(alloc: Global, question: &Value, op: &str, table: &CronTable) -> Result<Value> {
-    match op {
-        "place" => tables::place(alloc, question, table),
-        "taken_up" => tables::items_taken_up(alloc, question, table),
-        op => match of_runs(Subject::Table(table), op) {
-            Some(ask) => answer_on_clock(alloc, question, ask),
-            None => Err(Fault::Unsupported),
-        },
-    }
-}
-
-// What an operation asks of the runs of a subject.
-fn of_runs<'j>(subject: Subject<'j>, op: &str) -> Option<Ask<'j>> {
-    match op {
-        "next" => Some(Ask::Search(subject, Direction::Forward)),
-        "prev" => Some(Ask::Search(subject, Direction::Backward)),
-        "iter" => Some(Ask::Items(subject)),
-        _ => None,
-    }
-}
-
-fn answer_of_job(alloc: Global, question: &Value, op: &str) -> Result<Value> {
-    match op {
         "values" => values::values(alloc, question, Job::read(alloc, question)?),
-        "next" | "prev" | "iter" | "reread" | "bounds" => {
-            answer_on(alloc, question, op, &Job::read(alloc, question)?)
-        }
-        op => ask(Caller::without_marks(alloc), question, op)?.into_value(alloc),
-    }
-}
-
-fn answer_on(alloc: Global, question: &Value, op: &str, job: &Job) -> Result<Value> {
-    match op {
-        "reread" => reread(alloc, question, job),
-        "bounds" => as_bounds_move(alloc, question, job),
-        op => match of_runs(Subject::Job(job), op) {
-            Some(ask) => answer_on_clock(alloc, question, ask),
-            None => Err(Fault::Unsupported),
-        },
+        "alike" => alike(alloc, question),
+        "summary" => summaries::summary(alloc, question),
+        "preset" => preset(alloc, question),
+        _ => Err(Fault::Unsupported),
     }
 }

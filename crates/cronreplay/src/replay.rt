@@ -1,39 +1,88 @@
-//! The replay: the answer of each question, and whether it is the wanted one.
+//! The replay: the question of each line is answered, and its answer held against the wanted one.
 
-use crate::question::answer;
+use crate::question::make_calls;
 use croner::errors::CronError;
-use croner_rows::{Fault, Result, Tool, shown};
+use croner_rows::{Caller, Fault, Result, member, shown};
 use serde_json::Value;
 use std::alloc::Global;
+use std::io;
+use std::io::{BufRead, BufReader, Write};
 
-/// The replay.
-#[derive(Clone, Copy)]
-pub struct Replay {
-    pub alloc: Global,
+/// How many lines there were, how many of them differ or are malformed, and how many ask for an unknown operation.
+#[derive(Clone, Copy, Default)]
+pub struct Counts {
+    pub lines: u64,
+    pub differing: u64,
+    pub unsupported: u64,
 }
 
-impl Tool for Replay {
-    fn answer(&self, question: &Value) -> Result<Value> {
-        let got = match answer(self.alloc, question) {
-            Err(Fault::Refused(error)) => refusal_wanted(self.alloc, question, &error)?,
-            answered => answered?,
-        };
-        match question.get("want") {
-            Some(_) => Ok(got),
-            None => Err(Fault::Malformed),
+/// Answers each line of standard input, and prints those that differ and those that are malformed.
+pub fn replay_lines<W: Write>(caller: Caller<'_>, out: &mut W) -> Result<Counts> {
+    let mut input = BufReader::new(caller.alloc, caller.rt.stdin())?;
+    let mut counts = Counts::default();
+    let mut line = Vec::new(caller.alloc);
+    for _ in 0..u64::MAX {
+        line.clear();
+        if input.read_until(b'\n', &mut line)? == 0 {
+            break;
         }
+        counts.lines = counts.lines.saturating_add(1);
+        judge(caller, out, line.as_slice(), &mut counts)?;
     }
+    Ok(counts)
+}
 
-    // A `stderr` that is wanted with a space at its end says only how it begins.
-    fn is_wanted(&self, got: &Value, want: &Value) -> bool {
-        match (stderr(got), stderr(want)) {
-            (Some(text), Some(start)) if start.ends_with(' ') => {
-                text.starts_with(start)
-                    && is_same(got, want, "status")
-                    && is_same(got, want, "stdout")
-            }
-            _ => *got == *want,
+// Counts a line, and prints it where it differs or is malformed.
+fn judge<W: Write>(
+    caller: Caller<'_>,
+    out: &mut W,
+    line: &[u8],
+    counts: &mut Counts,
+) -> Result<()> {
+    match difference(caller, line) {
+        Ok(None) => Ok(()),
+        Ok(Some(text)) => Ok(print(out, counts, text.as_str())?),
+        Err(Fault::Malformed) => Ok(print(out, counts, "malformed")?),
+        Err(Fault::Unsupported) => {
+            counts.unsupported = counts.unsupported.saturating_add(1);
+            Ok(())
         }
+        Err(fault) => Err(fault),
+    }
+}
+
+fn print<W: Write>(out: &mut W, counts: &mut Counts, text: &str) -> io::Result<()> {
+    counts.differing = counts.differing.saturating_add(1);
+    let number = counts.lines;
+    writeln!(out, "line {number}: {text}")
+}
+
+// The answer of a line and the wanted one, where they differ.
+fn difference(caller: Caller<'_>, line: &[u8]) -> Result<Option<String>> {
+    let question = shown::json(caller.alloc, line)?;
+    let want = member(&question, "want")?;
+    let got = answer(caller, &question)?;
+    if is_wanted(&got, want) {
+        return Ok(None);
+    }
+    Ok(Some(format!(in caller.alloc; "got {got}, want {want}")?))
+}
+
+// The answer of a question; if the library refuses it, the refusal.
+fn answer(caller: Caller<'_>, question: &Value) -> Result<Value> {
+    match make_calls(caller, question, &mut String::new(caller.alloc)) {
+        Err(Fault::Refused(error)) => refusal_wanted(caller.alloc, question, &error),
+        answered => answered,
+    }
+}
+
+// Whether an answer is the wanted one. A `stderr` that is wanted with a space at its end says only how it begins.
+fn is_wanted(got: &Value, want: &Value) -> bool {
+    match (stderr(got), stderr(want)) {
+        (Some(text), Some(start)) if start.ends_with(' ') => {
+            text.starts_with(start) && is_same(got, want, "status") && is_same(got, want, "stdout")
+        }
+        _ => *got == *want,
     }
 }
 

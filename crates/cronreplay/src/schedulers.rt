@@ -1,11 +1,12 @@
-//! Schedulers: the answers of calls in turn.
+//! Schedulers: the answers of calls in turn, and of one call with others before and after it.
 
 use croner::Clocked;
 use croner_rows::{
-    Caller, Named, Outcome, OverClocks, Result, call_in_turn, list, new_scheduler, over_clocks,
+    Caller, Fault, FlakyJob, Named, OverClocks, Result, call_in_turn, call_scheduler, list,
+    new_scheduler, over_clocks, standings,
 };
+use croner_scheduler::Scheduler;
 use serde_json::Value;
-use std::alloc::Global;
 
 // The calls of a question.
 #[derive(Clone, Copy)]
@@ -14,19 +15,49 @@ struct Calls<'q> {
 }
 
 impl<'q> OverClocks for Calls<'q> {
-    fn outcome<T: Clocked>(&self, caller: Caller<'_>, clocks: &[T]) -> Result<Outcome> {
+    fn answer<T: Clocked>(
+        &self,
+        caller: Caller<'_>,
+        clocks: &[T],
+        after: &mut String,
+    ) -> Result<Value> {
         let (patterns, calls) = (
             list(self.question, "patterns")?,
             list(self.question, "calls")?,
         );
         let mut scheduler = new_scheduler(caller.alloc, self.question)?;
         let named = Named { patterns, clocks };
-        let answers = call_in_turn(caller, &mut scheduler, &named, calls)?;
-        Ok(Outcome::of_value(caller.alloc, answers))
+        let answers = call_in_turn(caller.without_marks(), &mut scheduler, &named, calls)?;
+        match self.question.get("call") {
+            None => Ok(answers),
+            Some(call) => one_call(caller, &mut scheduler, &named, (call, self.question), after),
+        }
     }
 }
 
-/// The answers of the calls of a question, on a scheduler that begins without jobs.
-pub fn scheduler(alloc: Global, question: &Value) -> Result<Value> {
-    over_clocks(Caller::without_marks(alloc), question, &Calls { question })?.into_value(alloc)
+fn one_call<T: Clocked>(
+    caller: Caller<'_>,
+    scheduler: &mut Scheduler<FlakyJob, T>,
+    named: &Named<'_, T>,
+    (call, question): (&Value, &Value),
+    after: &mut String,
+) -> Result<Value> {
+    let before = standings(caller.alloc, scheduler)?;
+    let answer = call_scheduler(caller, scheduler, named, call);
+    let mut is_same = true;
+    if let Err(Fault::OutOfMemory) = answer {
+        is_same = standings(caller.alloc, scheduler)? == before;
+        let _ = call_scheduler(caller.without_marks(), scheduler, named, call)?;
+    }
+    let calls = list(question, "after")?;
+    let answers = call_in_turn(caller.without_marks(), scheduler, named, calls)?;
+    write!(after, "{is_same} {answers}")?;
+    answer
+}
+
+/// The answers of the calls of a question, on a scheduler that begins without jobs. With the member `call` that call's answer after
+/// them. Afterwards whether a call that lacked memory left each job as it was, and what the calls `after` answer, once it was made
+/// again with memory.
+pub fn scheduler(caller: Caller<'_>, question: &Value, after: &mut String) -> Result<Value> {
+    over_clocks(caller, question, &Calls { question }, after)
 }

@@ -2,16 +2,18 @@
 
 use croner::time::Direction;
 use croner::time::table::{ClockTable, TableTime};
-use croner_rows::{Fault, Result, clock_table, direction, member, number, number_at, shown, text};
+use croner_rows::{
+    Caller, Fault, Result, direction, member, number, number_at, shown, table_of, text,
+};
 use crontab::line::{Dialect, Entry, Job, entry_of};
 use crontab_runs::{CrontabJob, Start, StartsEnd, next_starts_until};
 use serde_json::Value;
 use std::alloc::Global;
 
 /// When cron starts the line of a question, on the clock of its member `zone`.
-pub fn starts(alloc: Global, question: &Value) -> Result<Value> {
-    let table = clock_table(alloc, member(question, "zone")?)?;
-    starts_on(alloc, question, &table)
+pub fn starts(caller: Caller<'_>, question: &Value) -> Result<Value> {
+    let table = table_of(caller, member(question, "zone")?)?;
+    starts_on(caller.alloc, question, &table)
 }
 
 fn starts_on(alloc: Global, question: &Value, table: &ClockTable) -> Result<Value> {

@@ -1,13 +1,10 @@
-//! Single values: those of a field, the numbers of parts, weekdays, and texts, also those of languages that no description uses.
+//! Single values: those of a field, the numbers of parts, and texts of languages, also those that no description uses.
 
 use croner::Cron;
 use croner::describe::Language;
 use croner::describe::lang::english::English;
 use croner::describe::lang::swedish::Swedish;
-use croner::time::CivilDate;
-use croner_rows::{
-    Fault, Job, Result, field_at, number_at, shown, text, three_numbers, time_component, weekday,
-};
+use croner_rows::{Caller, Fault, Job, Result, field_at, shown, text, time_component};
 use serde_json::Value;
 use std::alloc::Global;
 
@@ -23,34 +20,44 @@ pub fn number_of_part(question: &Value) -> Result<Value> {
     Ok(Value::from(time_component(question)? as u32))
 }
 
-/// The weekday so many days on, from Sunday.
-pub fn shifted_weekday(question: &Value) -> Result<Value> {
-    let (weekday, days): (_, i16) = (weekday(question, "weekday")?, number_at(question, "days")?);
-    Ok(Value::from(weekday.shift(days as i32).num_days_from_sunday()))
-}
-
-/// The text of a date.
-pub fn date(alloc: Global, question: &Value) -> Result<Value> {
-    let (year, month, day) = three_numbers(question, "date")?;
-    let date = CivilDate::from_ymd(year, month, day)?;
-    Ok(Value::String(date.to_string(alloc)?))
-}
-
-/// What a language says for each minute of every 5 hours, and between the last two items of a list.
-pub fn words_of_language(alloc: Global, question: &Value) -> Result<Value> {
+/// Texts of a language: what it says for each minute of every 5 hours, between the last two items of a list, or all that isn't about a
+/// number.
+pub fn words_of_language(caller: Caller<'_>, question: &Value) -> Result<Value> {
     match text(question, "language")? {
-        "english" => said_words(alloc, &English, text(question, "words")?),
-        "swedish" => said_words(alloc, &Swedish, text(question, "words")?),
+        "english" => said_words(caller, &English, text(question, "words")?),
+        "swedish" => said_words(caller, &Swedish, text(question, "words")?),
         _ => Err(Fault::Malformed),
     }
 }
 
-fn said_words<L: Language>(alloc: Global, language: &L, words: &str) -> Result<Value> {
+fn said_words<L: Language>(caller: Caller<'_>, language: &L, words: &str) -> Result<Value> {
     match words {
-        "every_minute_of_every_5_hours" => Ok(Value::String(language.every_minute_of_every_x_hours(
-            alloc, 5,
-        )?)),
-        "list_conjunction_and_comma" => shown::text(alloc, language.list_conjunction_and_comma()),
+        "every_minute_of_every_5_hours" => {
+            let text = language.every_minute_of_every_x_hours(caller.alloc, 5)?;
+            Ok(Value::String(text))
+        }
+        "list_conjunction_and_comma" => {
+            shown::text(caller.alloc, language.list_conjunction_and_comma())
+        }
+        "without_number" => words_without_number(caller, language),
         _ => Err(Fault::Malformed),
     }
+}
+
+fn words_without_number<L: Language>(caller: Caller<'_>, language: &L) -> Result<Value> {
+    caller.begin();
+    let (minute, second) = (language.every_minute(), language.every_second_phrase());
+    let last = language.the_last_day_of_the_month();
+    let (and, or) = (
+        language.list_conjunction_and(),
+        language.list_conjunction_or(),
+    );
+    let comma = language.list_conjunction_and_comma();
+    let (days, months) = (language.day_of_week_names(), language.month_names());
+    caller.end();
+    let (sunday, december) = (days[0], months[11]);
+    let text = format!(in caller.alloc;
+        "{minute};{second};{last};{and};{or};{comma};{sunday};{december}"
+    );
+    Ok(Value::String(text?))
 }

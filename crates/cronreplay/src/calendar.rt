@@ -6,11 +6,8 @@ use croner::time::{
     CivilDate, CivilDateTime, CivilTime, CronDateTime, Resolution, Weekday, day_of_year,
     days_in_month, days_in_year, is_leap_year,
 };
-use croner_rows::shown::text;
-use croner_rows::{
-    Caller, Fault, Outcome, Result, are_alike, clock_changes, member, number_at, read_rule,
-    three_numbers,
-};
+use croner_rows::shown::{object, text};
+use croner_rows::{Caller, Fault, Result, are_alike, number, number_at, table_of, three_numbers};
 use serde_json::Value;
 use std::alloc::Global;
 
@@ -19,9 +16,9 @@ const SECONDS_PER_DAY: i64 = 86_400;
 // The bytes reserved for the text of a date and time.
 const TEXT_BYTES: usize = 64;
 
-/// Questions about a date: whether its year is a leap year, the year's days, the month's days, and the day of the year.
+/// Questions about a date: its text, whether its year is a leap year, the year's days, the month's days, and the day of the year.
 /// Also whether all ways of making the date give it; or that there is no such date.
-pub fn calendar(caller: Caller<'_>, question: &Value) -> Result<Outcome> {
+pub fn calendar(caller: Caller<'_>, question: &Value) -> Result<Value> {
     let (year, month, day) = three_numbers(question, "date")?;
     caller.begin();
     let date = CivilDate::from_ymd(year, month, day);
@@ -30,7 +27,7 @@ pub fn calendar(caller: Caller<'_>, question: &Value) -> Result<Outcome> {
     caller.end();
     match date {
         Ok(date) => shown_date(caller, date, found, (leap, days)),
-        Err(error) if found.is_none() => Ok(Outcome::of(caller.alloc, Err(Fault::from(error)))),
+        Err(error) if found.is_none() => Err(Fault::from(error)),
         Err(_) => Err(Fault::Malformed),
     }
 }
@@ -40,14 +37,14 @@ fn shown_date(
     date: CivilDate,
     found: Option<CivilDate>,
     year: (bool, u32),
-) -> Result<Outcome> {
+) -> Result<Value> {
     caller.begin();
     let (length, place) = (date.days_in_month(), date.day_of_year());
     let same = found == Some(date) && is_same_date(date);
     caller.end();
     let (leap, days) = year;
-    let text = format!(in caller.alloc; "[{leap},{days},{length},{place},{same}]");
-    Outcome::of_text(caller.alloc, text)
+    let text = format!(in caller.alloc; "[\"{date}\",{leap},{days},{length},{place},{same}]");
+    object(caller.alloc, text)
 }
 
 // Whether the free functions say of a date what its own say, and its parts give it again.
@@ -60,38 +57,38 @@ fn is_same_date(date: CivilDate) -> bool {
     is_told_alike && are_alike(&again, &date)
 }
 
-/// The weekday that many days from Sunday, and the one a day later.
-pub fn weekday(caller: Caller<'_>, question: &Value) -> Result<Outcome> {
-    let days = number_at(question, "days")?;
+/// The weekday that many days from Sunday, and the one so many days later.
+pub fn weekday(caller: Caller<'_>, question: &Value) -> Result<Value> {
+    let (days, shift): (_, i16) = (number_at(question, "days")?, number_at(question, "shift")?);
     caller.begin();
     let weekday = Weekday::from_days_from_sunday(days);
-    let later = weekday.shift(1);
+    let later = weekday.shift(i32::from(shift));
     let (days, days_later) = (weekday.num_days_from_sunday(), later.num_days_from_sunday());
     let same = are_alike(&weekday, &weekday);
     caller.end();
     let text = format!(in caller.alloc; "[{days},{days_later},{same}]");
-    Outcome::of_text(caller.alloc, text)
+    object(caller.alloc, text)
 }
 
 /// The time of day of an hour, a minute and a second, or that there is none.
-pub fn clock_face(caller: Caller<'_>, question: &Value) -> Result<Outcome> {
+pub fn clock_face(caller: Caller<'_>, question: &Value) -> Result<Value> {
     let (hour, minute, second) = three_numbers(question, "time")?;
     caller.begin();
     let time = CivilTime::from_hms_opt(hour, minute, second);
     caller.end();
     match time {
         Some(time) => shown_time(caller, time),
-        None => Ok(Outcome::of_value(caller.alloc, Value::Null)),
+        None => Ok(Value::Null),
     }
 }
 
-fn shown_time(caller: Caller<'_>, time: CivilTime) -> Result<Outcome> {
+fn shown_time(caller: Caller<'_>, time: CivilTime) -> Result<Value> {
     caller.begin();
     let (hour, minute, second) = (time.hour(), time.minute(), time.second());
     let same = is_same_time(time);
     caller.end();
     let text = format!(in caller.alloc; "[{hour},{minute},{second},{same}]");
-    Outcome::of_text(caller.alloc, text)
+    object(caller.alloc, text)
 }
 
 // Whether a time of day lies in the day, and its parts give it again.
@@ -102,7 +99,7 @@ fn is_same_time(time: CivilTime) -> bool {
 }
 
 /// The date and time of six numbers: its text, written into memory reserved before, and its numbers; or its refusal.
-pub fn date_and_time(caller: Caller<'_>, question: &Value) -> Result<Outcome> {
+pub fn date_and_time(caller: Caller<'_>, question: &Value) -> Result<Value> {
     let (year, month, day) = three_numbers(question, "date")?;
     let (hour, minute, second) = three_numbers(question, "time")?;
     caller.begin();
@@ -111,7 +108,7 @@ pub fn date_and_time(caller: Caller<'_>, question: &Value) -> Result<Outcome> {
     caller.end();
     match civil {
         Ok(civil) => shown_civil(caller, civil, found),
-        Err(error) => Ok(Outcome::of(caller.alloc, Err(Fault::from(error)))),
+        Err(error) => Err(Fault::from(error)),
     }
 }
 
@@ -119,7 +116,7 @@ fn shown_civil(
     caller: Caller<'_>,
     civil: CivilDateTime,
     found: Option<CivilDateTime>,
-) -> Result<Outcome> {
+) -> Result<Value> {
     let mut text = String::with_capacity(caller.alloc, TEXT_BYTES)?;
     caller.begin();
     let written = write!(text, "{civil}");
@@ -129,9 +126,9 @@ fn shown_civil(
     caller.end();
     written?;
     let text = format!(in caller.alloc;
-        "{text} [{year},{month},{day},{hour},{minute},{second}] {same}"
+        "[\"{text}\",{year},{month},{day},{hour},{minute},{second},{same}]"
     );
-    Outcome::of_text(caller.alloc, text)
+    object(caller.alloc, text)
 }
 
 // Whether the date and the time of day give the date and time again.
@@ -140,54 +137,27 @@ fn is_same_civil(civil: CivilDateTime) -> bool {
     are_alike(&again, &civil)
 }
 
-/// The table of a first offset and changes, and calls of a second on its clock: how many instants show what it shows, and the
-/// second a day later.
-pub fn clock_table(caller: Caller<'_>, question: &Value) -> Result<Outcome> {
-    let first = number_at(question, "first")?;
-    let second = number_at(question, "second")?;
-    let changes = clock_changes(caller.alloc, question)?;
-    caller.begin();
-    let table = ClockTable::new(first, changes);
-    caller.end();
-    told_of_table(caller, table, second)
-}
-
-/// The table of a rule's zone in a window, and calls of a second on its clock, as for a table of offsets.
-pub fn zone_table(caller: Caller<'_>, question: &Value) -> Result<Outcome> {
-    let (first, last) = (number_at(question, "first")?, number_at(question, "last")?);
-    let second = number_at(question, "second")?;
-    let zone = read_rule(member(question, "rule")?)?;
-    caller.begin();
-    let table = ClockTable::of_zone(caller.alloc, &zone, first, last);
-    caller.end();
-    told_of_table(caller, table, second)
-}
-
-fn told_of_table(
-    caller: Caller<'_>,
-    table: Result<ClockTable, CronError>,
-    second: i64,
-) -> Result<Outcome> {
-    match table {
-        Ok(table) => second_on(caller, &table, second),
-        Err(error) => Ok(Outcome::of(caller.alloc, Err(Fault::from(error)))),
+/// The table of a clock, and calls of a second on it, if the question has one: how many instants show what it shows, and the second
+/// a day later.
+pub fn clock_table(caller: Caller<'_>, question: &Value) -> Result<Value> {
+    let table = table_of(caller, question)?;
+    match question.get("second") {
+        Some(second) => second_on(caller, &table, number(second)?),
+        None => text(caller.alloc, "ok"),
     }
 }
 
-fn second_on(caller: Caller<'_>, table: &ClockTable, second: i64) -> Result<Outcome> {
+fn second_on(caller: Caller<'_>, table: &ClockTable, second: i64) -> Result<Value> {
     caller.begin();
     let time = TableTime::new(table, second);
     caller.end();
     match time {
         Ok(time) => calls_of_time(caller, &time),
-        Err(_) => {
-            let answer = text(caller.alloc, "no such second")?;
-            Ok(Outcome::of_value(caller.alloc, answer))
-        }
+        Err(_) => text(caller.alloc, "no such second"),
     }
 }
 
-fn calls_of_time(caller: Caller<'_>, time: &TableTime<'_>) -> Result<Outcome> {
+fn calls_of_time(caller: Caller<'_>, time: &TableTime<'_>) -> Result<Value> {
     caller.begin();
     let copy = *time;
     let shown = time.to_civil();
@@ -205,9 +175,9 @@ fn told_of_time(
     count: u32,
     second: i64,
     same: bool,
-) -> Result<Outcome> {
+) -> Result<Value> {
     let text = format!(in alloc; "[\"{shown}\",{count},{second},{same}]");
-    Outcome::of_text(alloc, text)
+    object(alloc, text)
 }
 
 // How many instants were found.
