@@ -22,6 +22,7 @@ pub record IsTimedWindow (v : View) (t : TimedWindow) : Type 0 where
   pub from_is : IsShownTime v t.window.from.second t.from
   pub until_is : IsShownTime v t.window.until.second t.until
 
+-- these windows, in this order
 pub record AreTimedWindows (v : View) (windows : List Window) (timed : List TimedWindow) : Type 0 where
   pub windows_are : map (λ (t : TimedWindow). t.window) timed ≡ windows
   pub times_are : All (IsTimedWindow v) timed
