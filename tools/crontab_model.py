@@ -2,7 +2,7 @@
 """A slow model of crontabs, as Debian's cron 3.0pl1 reads them, that shares nothing with the library.
 
     tools/crontab_model.py lines    [--system] FILE                        what each line is
-    tools/crontab_model.py runs     [--system] FILE ZONE FROM UNTIL        the runs of each job, behind FROM and up to UNTIL
+    tools/crontab_model.py runs     [--system] FILE ZONE FROM UNTIL        the runs of each job, after FROM and up to UNTIL
     tools/crontab_model.py starts   [--system] FILE ZONE FROM UNTIL        what cron itself starts there: instants, and how many times
     tools/crontab_model.py warnings [--system | --patterns] FILE ZONE FROM what is to be said of each line that is taken
 
@@ -16,7 +16,7 @@ line with a byte 0, and one that ends at a quote that it began, are decided with
 
 How runs come about. The clock of a zone is its spans of one offset. In each span one wall minute after another is
 looked at: it is named, or not. A job of one plain minute and one plain hour runs only where no earlier instant shows
-the same minute; and at the first instant behind a gap that holds a named minute, if the date there is named.
+the same minute; and at the first instant after a gap that holds a named minute, if the date there is named.
 
 What cron starts: by its main loop, with its variables and its four cases by their names. Its sleep takes no time: it looks at
 the clock at each second, and what it starts is started at that second.
@@ -110,7 +110,7 @@ class Part:
 
 
 class Field:
-    """What a field names, how it was written, its parts, and what stands behind them."""
+    """What a field names, how it was written, its parts, and what stands after them."""
 
     def __init__(self, at, text, parts, passed_over):
         self.least, self.most = FIELDS[at][1:3]
@@ -442,7 +442,7 @@ def named_changes(name, start, last_year):
 
 
 class Clock:
-    """The spans of a zone from three days before a start to a day behind an end."""
+    """The spans of a zone from three days before a start to a day after an end."""
 
     def __init__(self, zone, start, end):
         self.spans = spans_of(zone, start - 3 * DAY, end + DAY)
@@ -491,7 +491,7 @@ def wall_minutes(job, first, end):
 
 
 def runs_of(job, clock, start, until):
-    """The runs of a job behind a start and up to an end, ascending."""
+    """The runs of a job after a start and up to an end, ascending."""
     if job.fields is None:
         return
     ends = clock.instants[1:] + [until + 1]
@@ -510,7 +510,7 @@ def runs_of(job, clock, start, until):
 
 
 def first_run(job, zone, start):
-    """The first run behind a start in the years up to 5000, or nothing."""
+    """The first run after a start in the years up to 5000, or nothing."""
     if job.fields is None or not (job.minutes.values and job.hours.values):
         return None
     if not any(job.matches_date(number) for number in range(model.DAYS_OF_CYCLE)):
@@ -616,7 +616,7 @@ class Cron:
 
 
 def starts_of(job, spans, start, until):
-    """What cron starts of a job behind a start and up to an end."""
+    """What cron starts of a job after a start and up to an end."""
     return [(second, count) for second, count, _ in told_of(job, spans, start, until)]
 
 
@@ -633,7 +633,7 @@ ORDER = [
     "either-day", "uneven-step", "step-beyond", "range-down", "passed-over", "large-number", "whole-hour", "short-months", "gone", "never", "no-command", "looks-like-field", "user", "percent",
     "continued", "control-byte", "no-newline", "no-zone", "not-expanded", "carriage-return", "empty-item", "other-name",
 ]
-# These stand behind the others: what is told of a gap, and then what of a repeated range.
+# These stand after the others: what is told of a gap, and then what of a repeated range.
 CHANGES = ["gap", "twice"]
 FIELD_NAMES = ["seconds", "minutes", "hours", "days of the month", "months", "weekdays", "years"]
 # The most lines of a user's crontab, and the last one of the system's at which cron takes a job or a setting.
@@ -743,7 +743,7 @@ def warnings_of_fields(job):
 
 
 def has_run(times, zone, start):
-    """Whether a pattern has a run behind a start: date after date, and second after second of each that is named."""
+    """Whether a pattern has a run after a start: date after date, and second after second of each that is named."""
     job = times.job
     last = model.wall(LAST_YEAR + 1) - 1
     for first, end in ((start, min(last, start + 2 * WATCHED)), (start, last)):
@@ -764,7 +764,7 @@ def dates_of(times, clock, start, end):
 
 
 def is_met(times, clock, start, number):
-    """Whether the clock shows a scheduled second of a date behind the start."""
+    """Whether the clock shows a scheduled second of a date after the start."""
     job = times.job
     for hour in job.hours.in_order():
         for minute in job.minutes.in_order():
@@ -785,7 +785,7 @@ def is_carried_to(times, before, after):
 
 
 def warnings_of_changes(times, zone, start):
-    """What is told of the first change behind the start that puts the clock forward over a scheduled second, and of the first that
+    """What is told of the first change after the start that puts the clock forward over a scheduled second, and of the first that
     repeats one: that a run is left out, or made twice, of a job that isn't due beside it; of one with all hours, that cron starts
     nothing of it while the clock shows minutes again. Nothing of a change of half a day or more."""
     found = {}
@@ -825,7 +825,7 @@ def warnings_of_pause(times, name, instant, before, after, second):
 
 
 def is_due_beside(times, first, end):
-    """Whether the job is due within three hours before a range, or within three hours behind it."""
+    """Whether the job is due within three hours before a range, or within three hours after it."""
     return times.second_in(first - BESIDE, first) is not None or times.second_in(end, end + BESIDE) is not None
 
 
@@ -865,7 +865,7 @@ def warnings_of_times(times, zone, start):
 
 
 def has_open_percent(command):
-    """Byte after byte as cron copies a command: what stands behind a backslash is copied, and a percent sign else ends it."""
+    """Byte after byte as cron copies a command: what stands after a backslash is copied, and a percent sign else ends it."""
     at = 0
     while at < len(command):
         if command[at:at + 1] == b"%":
@@ -892,8 +892,8 @@ def hides(data):
 def value_in(text):
     """The value of a setting, with its quotes."""
     text = text.lstrip(b" \t")[:SETTING_BYTES]
-    behind = text[quoted_or_bare(text, b"=" + SPACES, True):].lstrip(SPACES)
-    return behind[1:].lstrip(SPACES)
+    rest = text[quoted_or_bare(text, b"=" + SPACES, True):].lstrip(SPACES)
+    return rest[1:].lstrip(SPACES)
 
 
 def is_not_expanded(value):
@@ -1018,8 +1018,8 @@ def first_too_many(lines, is_system):
 
 
 def data_of_row(row):
-    """The file of a row: its text so many times, and what stands in front of these and behind them."""
-    return (row.get("front", "") + row["text"] * row.get("times", 1) + row.get("behind", "")).encode("latin-1")
+    """The file of a row: its text so many times, and what stands in front of these and after them."""
+    return (row.get("front", "") + row["text"] * row.get("times", 1) + row.get("after", "")).encode("latin-1")
 
 
 def told_of_row(row):

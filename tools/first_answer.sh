@@ -1,7 +1,7 @@
 # shellcheck shell=sh
 # What the scripts share that answer by a program of this repository: where ./build has proved it on this machine, the program answers
 # and nothing more; until then, and after a change of its sources, rt runs it as it stands, without a proof. They source this file
-# behind tools/program.sh.
+# after tools/program.sh.
 
 # shellcheck disable=SC2154
 no_answer=3
@@ -18,7 +18,7 @@ build_command() {
 }
 
 # rt runs in a session of its own, so that Ctrl-C reaches it by this script alone: a second signal would cut its cleaning up short.
-# The words are those of rt, and behind -- those of the program.
+# The words are those of rt, and after -- those of the program.
 try_program() {
     set -- rt try "$@"
     ! command -v setsid >/dev/null || set -- setsid "$@"
@@ -26,11 +26,11 @@ try_program() {
     cd "$top/crates/$program" && become "$@" <&3 3<&-
 }
 
-# The program's own standard error: hints of rt stand before it; behind it a line for each way in which rt ran it, and the last.
+# The program's own standard error: hints of rt stand before it; after it a line for each way in which rt ran it, and the last.
 program_errors() {
     LC_ALL=C awk '
-        !is_behind && /^rt: a check will refuse this: / { next }
-        { is_behind = 1; line[++last] = $0 }
+        !is_after && /^rt: a check will refuse this: / { next }
+        { is_after = 1; line[++last] = $0 }
         END {
             last--
             if (line[last] ~ /^races: /) last--
@@ -53,14 +53,14 @@ refuse_try() {
 }
 
 # rt has statuses of its own, which are numbers like the program's: a status is the program's only where the last line says so.
-# The program's standard input is what stands open as 3: a shell takes its own from what runs behind it.
+# The program's standard input is what stands open as 3: a shell takes its own from what runs in the background.
 first_answer() {
     command -v rt >/dev/null ||
         refuse 'there is no command rt: install the Rattle kit of the version that README.md names, with its rt in PATH'
     make_room || refuse "no folder for temporary files can be made in ${TMPDIR:-/tmp}"
     printf '%s: this answer comes from a program that is not proved on this machine yet; each call takes a minute or more until %s proves it\n' \
         "$program" "$(build_command)" >&2
-    run_behind try_program "$@" >"$room/out" 2>"$room/err"
+    run_in_background try_program "$@" >"$room/out" 2>"$room/err"
     case $(tail -n 1 "$room/err") in
         "run=ended status=$status" | "run=ended status=$status "*) ;;
         *) refuse_try "$@" ;;

@@ -37,7 +37,7 @@ day; what it stops at is decided by `runs_at` again. There is no second walk, no
 passes. In a table of patterns each place is decided by itself, at each instant by itself.
 
 How the limit comes about. The search goes on to the end of the years 1 to 5000. Where it meets no run, the limit is
-wanted. Where the run that it meets lies outside the span (`is_in_span`: in year 5000 or behind an instant that shows
+wanted. Where the run that it meets lies outside the span (`is_in_span`: in year 5000 or after an instant that shows
 it; backward in year 1 or before an instant that shows it), the definitions allow that run and the limit, and no third
 answer. Which of the two comes is a matter of the rule on steps (`comes_to`: none leads on in year 5000, backward in
 year 1), so there, and only there, each pattern is walked along the wall clock (`walked`), over both halves of a
@@ -437,7 +437,7 @@ def next_scheduled(job, second, direction):
 
 
 def comes_to(job, second, direction):
-    """The same where a walk comes to it. From a year of the span it steps on to the first day of the year behind. From
+    """The same where a walk comes to it. From a year of the span it steps on to the first day of the year after. From
     that year on it makes no step over a day, an hour or a minute: a named hour stays, and in it a named minute."""
     due = next_scheduled(job, second, direction)
     if due is None:
@@ -532,7 +532,7 @@ def answer(jobs, clock, start, direction, inclusive):
 
 
 def answers(jobs, clock, start, direction, inclusive, count):
-    """At most so many runs one after another, and nothing behind them where fewer are left; whether one was outside."""
+    """At most so many runs one after another, and nothing after them where fewer are left; whether one was outside."""
     found, outside = [], False
     while len(found) < count:
         run, is_outside = answer(jobs, clock, start, direction, inclusive)
@@ -668,7 +668,7 @@ def drawn_way(draw):
 
 
 def wanted(question, found, shown):
-    """What the replay wants: the runs, and behind them the limit, or null for each further call of an iterator."""
+    """What the replay wants: the runs, and after them the limit, or null for each further call of an iterator."""
     runs = [shown(run) for run in found if run is not None]
     missing = question["count"] - len(runs)
     if question["op"].endswith("iter"):

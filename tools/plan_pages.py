@@ -10,7 +10,7 @@ import plan_texts
 from plan_model import DAY, OUTSIDE, SKIPPED, shown
 
 MOST_MARKS = 200
-# What may stand behind a warning of two day fields, which isn't compared.
+# What may stand after a warning of two day fields, which isn't compared.
 DATES = re.compile(r" In \d{4}-\d\d the day of the month names .*, and the weekday .*\.$")
 
 
@@ -58,7 +58,7 @@ class Sections:
         return [row.elements() for element in self.named(name) for row in element.all("tr")][1:]
 
 
-def times_behind(count):
+def times_after(count):
     return f" ({count} times)" if count > 1 else ""
 
 
@@ -104,7 +104,7 @@ def judge_quiet(tally, what, case, plan, sections):
 def judge_fullest(tally, what, case, plan, sections):
     started, wanted = dict(plan.moments()), []
     for second, count in plan.fullest(5):
-        jobs = ", ".join(shown(plan.jobs[place].title) + times_behind(times) for place, times in started[second])
+        jobs = ", ".join(shown(plan.jobs[place].title) + times_after(times) for place, times in started[second])
         wanted.append(plain(f"{plan_texts.time_text(plan, second)} {plan_texts.many(count)}, {jobs}"))
     tally.take(f"{what}: fullest moments", sections.lines("Fullest moments"), wanted or ["None of the jobs shown starts."])
 
@@ -161,7 +161,7 @@ def marks_of(plan, place):
     starts = plan.starts_of_job(place)
     if sum(count for _, count in starts) > MOST_MARKS:
         return found + [("b", 0, plan_texts.many(sum(count for _, count in starts)))]
-    return found + [("m", at(second), plan_texts.time_text(plan, second) + times_behind(count)) for second, count in starts]
+    return found + [("m", at(second), plan_texts.time_text(plan, second) + times_after(count)) for second, count in starts]
 
 
 def judge_days(tally, what, case, plan, sections):
@@ -171,7 +171,7 @@ def judge_days(tally, what, case, plan, sections):
     for number in plan.dates():
         starts = [it for it in plan.starts if plan.wall(it[0]) // DAY == number]
         name = f"{plan_texts.weekday(number)} {plan_texts.date_text(number)}, {plan_texts.many(sum(count for _, _, count in starts))}"
-        lines = [f"{plan_texts.time_text(plan, second)} {shown(plan.jobs[place].title)}{times_behind(count)}" for second, place, count in starts]
+        lines = [f"{plan_texts.time_text(plan, second)} {shown(plan.jobs[place].title)}{times_after(count)}" for second, place, count in starts]
         wanted.append([name, list(map(plain, lines))])
     tally.take(f"{what}: days", days, wanted)
 
@@ -185,7 +185,7 @@ def judge_jobs(tally, what, case, plan, sections):
     lines, _ = case.described()
     for place, job in enumerate(plan.jobs):
         starts = plan.starts_of_job(place)
-        following = [plan_texts.time_text(plan, second) + times_behind(count) for second, count in starts[:3]] or ["Nothing starts."]
+        following = [plan_texts.time_text(plan, second) + times_after(count) for second, count in starts[:3]] or ["Nothing starts."]
         warned = [it for it in lines[job.file, job.line]["findings"] if it["severity"] == "warning"]
         warned = [DATES.sub("", plain(f"{it['name']} {it['text']}")) for it in warned]
         count = left_out.get(place, sum(count for _, count in starts))

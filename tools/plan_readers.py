@@ -248,7 +248,7 @@ def faults_of_page(page):
     depth = 0
     for name in (it.name for it in walk(page) if re.fullmatch(r"h[1-6]", it.name)):
         if int(name[1]) > depth + 1 or name == "h1" and depth:
-            found.append(f"a heading {name} behind one of depth {depth}")
+            found.append(f"a heading {name} after one of depth {depth}")
         depth = int(name[1])
     for picture in page.all("svg"):
         names = [it.name for it in picture.elements()]

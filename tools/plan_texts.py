@@ -189,15 +189,15 @@ def cut(text, most):
 
 
 def month_blocks(plan, words):
-    """A grid for each month of the span, and behind the last one what its mark means and what starts each day. The words of each job are given."""
+    """A grid for each month of the span, and after the last one what its mark means and what starts each day. The words of each job are given."""
     months = sorted({model.date_at(number)[:2] for number in plan.dates()})
     daily = plan.daily_jobs()
     grids = [grid_lines(plan, *month, daily) for month in months]
     dates = [number for year, month in months for number in dates_of_month(year, month)]
-    behind = ["-: not in the plan"] if any(number not in plan.dates() for number in dates) else []
-    behind += ["Every day:"] if daily else []
-    behind += [f"  {cut(shown(plan.jobs[place].title), 24)}: {cut(words[place], 50)}" for place in daily]
-    grids[-1] += behind
+    last = ["-: not in the plan"] if any(number not in plan.dates() for number in dates) else []
+    last += ["Every day:"] if daily else []
+    last += [f"  {cut(shown(plan.jobs[place].title), 24)}: {cut(words[place], 50)}" for place in daily]
+    grids[-1] += last
     return grids
 
 

@@ -87,8 +87,8 @@ def shown_by(crate):
     return names
 
 
-def behind_parameters(text):
-    """What stands behind the type parameters with which a text begins."""
+def after_parameters(text):
+    """What stands after the type parameters with which a text begins."""
     depth = 0
     for at, sign in enumerate(text):
         depth += (sign == "<") - (sign == ">" and text[at - 1] != "-")
@@ -106,7 +106,7 @@ def public_lines(file):
     for line in file.read_text(encoding="utf-8").splitlines():
         match = ITEM.match(line)
         if match:
-            head = behind_parameters(match[3])
+            head = after_parameters(match[3])
             name = re.match(r"\W*(\w*)", head)[1]
             if match[2] != "fn":
                 kind, owner = match[2], re.findall(r"\w+", head.split(" for ")[-1] + " _")[0]

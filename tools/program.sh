@@ -42,7 +42,7 @@ crates_of() {
 }
 
 # Each source of the crates that are named, with its size and its time, so that one that was changed, added, removed or put back
-# shows, and behind a link what it leads to. The folders take the place of the names.
+# shows, and after a link what it leads to. The folders take the place of the names.
 sources_of() (
     cd "$top" || exit
     for each in "$@"; do
@@ -107,9 +107,9 @@ set_jobs() {
     export RT_JOBS
 }
 
-# ---- a folder for temporary files, a command behind, and others that work beside it, all gone when the script ends, also by a signal
+# ---- a folder for temporary files, a command in the background, and others beside it, all gone when the script ends, also by a signal
 
-room='' is_behind=no beside=''
+room='' is_in_background=no beside=''
 
 # The signals that end a script, by the numbers of Linux: HUP INT QUIT USR1 USR2 PIPE ALRM TERM XCPU XFSZ VTALRM PROF.
 signals='1 2 3 10 12 13 14 15 24 25 26 27'
@@ -133,26 +133,26 @@ make_room() {
     esac
 }
 
-# Runs a command behind the script, since no shell heeds a signal while a command runs in front; its status is kept. A shell has
+# Runs a command in the background, since no shell heeds a signal while a command runs in front; its status is kept. A shell has
 # words of its own for a command that was killed.
-run_behind() {
-    is_behind=yes
+run_in_background() {
+    is_in_background=yes
     "$@" &
     wait "$!" 2>/dev/null
     status=$?
-    is_behind=no
+    is_in_background=no
     return "$status"
 }
 
-# What a script does behind itself becomes the command: one that is told to end also when the script is killed.
+# What a script does in the background becomes the command: one that is told to end also when the script is killed.
 become() {
     ! setpriv --pdeathsig TERM true 2>/dev/null || set -- setpriv --pdeathsig TERM "$@"
     exec "$@"
 }
 
 # Told to end, rt ends what it started.
-stop_behind() {
-    [ $is_behind = no ] || { kill "$!" && wait "$!"; } 2>/dev/null
+stop_background() {
+    [ $is_in_background = no ] || { kill "$!" && wait "$!"; } 2>/dev/null
     for each in $beside; do
         # (one that has ended may have left its number to another process)
         ! grep -qs "^PPid:.$$\$" "/proc/$each/status" || kill "$each"
@@ -165,6 +165,6 @@ stop_behind() {
 clean_up() {
     # shellcheck disable=SC2086
     trap '' $signals
-    stop_behind
+    stop_background
     [ -z "$room" ] || rm -rf -- "$room"
 }

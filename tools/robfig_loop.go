@@ -46,7 +46,7 @@ type entry struct {
 	next     time.Time
 }
 
-// Its order: by the next run, and behind all others those that have none.
+// Its order: by the next run, and after all others those that have none.
 type byTime []*entry
 
 func (s byTime) Len() int      { return len(s) }

@@ -156,7 +156,7 @@ class Searches:
             self.runs[key] = self.nearest(op, text, zone.clock, second)
         run = self.runs[key]
         if zone.window is not None and isinstance(run, int) and not zone.window[0] < run < zone.window[1]:
-            raise ValueError(f"{text}: a run behind the window")
+            raise ValueError(f"{text}: a run after the window")
         return run
 
     def nearest(self, op, text, clock, second):
@@ -168,7 +168,7 @@ class Searches:
         return model.LIMIT if run is None else run[0]
 
     def ask(self):
-        """Asks the program for what is missing, and for the runs behind."""
+        """Asks the program for what is missing, and for the runs after it."""
         asked = sorted(self.missing, key=lambda each: (*each[:2], each[2].key, each[3]))
         lines = [json.dumps({"op": op, "text": text, "zone": zone.member, "start": second, "inclusive": WAYS[op][1],
                              "count": SEARCHED if op == "next" else 1, "want": None}) for op, text, zone, second in asked]

@@ -3,7 +3,7 @@
 
     tools/starts_rows.py                   the rows on starts of crates/cronreplay/stdin, one a line
     tools/starts_rows.py made PAIRS SEED   that many made-up pairs of a job and a calm clock, those of tools/starts_test: what is started from
-                                           the clock's begin up to a day behind its last change, as a listing, and backward from there.
+                                           the clock's begin up to a day after its last change, as a listing, and backward from there.
                                            On standard error it says how many starts these are
     tools/starts_rows.py beside COUNT      so many starts of a line, and so many of croner's runs of the same text, on the clock of Paris up to
                                            year 5000, forward and backward; of five lines. What they take is measured (docs/PERFORMANCE.md)
@@ -95,14 +95,14 @@ def backward(clock, line, start, until, most=6):
 
 
 def listing(clock, line, start, until, most=12):
-    """The starts up to a second, and the next behind them; or as many as were asked for."""
+    """The starts up to a second, and the next after them; or as many as were asked for."""
     inside = clock.starts(line, start, until)[:most]
     end = "Full" if len(inside) == most else clock.first(line, until)
     return question(clock, line, start, until=until, count=most, want=[inside, end])
 
 
 def rows_of(clock, lines, change):
-    """Each line forward over a change; in turn a listing there, and backward over it. Then from within the hour behind it."""
+    """Each line forward over a change; in turn a listing there, and backward over it. Then from within the hour after it."""
     for at, line in enumerate(lines):
         start, until = change - 2 * HOUR, change + 3 * HOUR
         yield forward(clock, line, start, change + 30 * HOUR)
@@ -198,10 +198,10 @@ def made(pairs, seed):
         pairs -= 1
         clock = Clock("made up", spans)
         start, until = spans[0][0], spans[-1][0] + DAY
-        found, behind = clock.starts(line, start, until), clock.starts(line, until, until + 3 * DAY)
+        found, later = clock.starts(line, start, until), clock.starts(line, until, until + 3 * DAY)
         answers += 2 * len(found)
         # One more is asked for than there are, where the next one is known: then the listing ends at that.
-        yield question(clock, line, start, until=until, count=len(found) + len(behind[:1]), want=[found, behind[0] if behind else "Full"])
+        yield question(clock, line, start, until=until, count=len(found) + len(later[:1]), want=[found, later[0] if later else "Full"])
         yield question(clock, line, until, direction="backward", count=len(found), want=found[::-1])
     print(f"{answers} starts", file=sys.stderr)
 

@@ -15,7 +15,7 @@ PROGRAM is the program `cronsummary`. Its lines have a pattern, its texts, wheth
 `judge` works out what the fields name from the pattern's own characters (`model.Field`), and what the data name from the
 meaning that the crate's documentation gives each phrase; the days of the 28 kinds of month, each by itself. It also looks at
 the data's form: a step of a whole field divides it, a list names no value twice, three values in a row are a range, and values go
-up, but that Sunday stands behind other weekdays. The last line says how many lines were read, and how many differ; the status is 0
+up, but that Sunday stands after other weekdays. The last line says how many lines were read, and how many differ; the status is 0
 where none does.
 """
 import functools

@@ -125,7 +125,7 @@ def zone_rows():
     """The rows of the files."""
     for name in ("Europe_Paris", "America_New_York", "Australia_Lord_Howe", "Asia_Kathmandu", "UTC"):
         whole(of_file(name), name)
-    whole(of_file("Europe_Paris_without_rule"), "Paris, a table of the years to 2037 without a rule behind it")
+    whole(of_file("Europe_Paris_without_rule"), "Paris, a table of the years to 2037 without a rule after it")
     whole(of_file("America_Anchorage"), "Anchorage from 1900", -2_208_988_800)
     row(of_file("America_Anchorage"), zones.FIRST_SECOND, LAST, "Anchorage from the beginning: back by a day in 1867",
         readings=[], want="InvalidTime")
@@ -166,9 +166,9 @@ def window_rows():
     refusal(paris, 1, 0, "the last second before the first")
     readings(paris, 1_000_000_000, 1_000_000_000, "one second")
     refusal(paris, zones.FIRST_SECOND - 1, 0, "before the first second that is held")
-    refusal(paris, 0, zones.LAST_SECOND + 1, "behind the last second that is held")
+    refusal(paris, 0, zones.LAST_SECOND + 1, "after the last second that is held")
     beyond(paris, spring, autumn, "changes at the first second and at the last")
-    beyond(paris, spring - 1, autumn - 1, "changes one second behind the first and behind the last")
+    beyond(paris, spring - 1, autumn - 1, "changes one second after the first and after the last")
     beyond(paris, spring + 1, autumn + 1, "changes one second before the first and before the last")
 
 

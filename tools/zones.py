@@ -82,7 +82,7 @@ def questions(data, first, last):
 
 
 def changes_of(zone, data, first, last):
-    """The changes of the zone's clock behind the first second, up to the last."""
+    """The changes of the zone's clock after the first second, up to the last."""
     found = []
     asked = questions(data, first, last)
     before, offset = first, ahead(zone, first)
@@ -113,7 +113,7 @@ def fault_of(changes):
         if step < -BACK:
             return change, "back by more than two hours"
         if earlier is not None and change.second - earlier.second <= APART:
-            return change, "no more than two days behind the change before"
+            return change, "no more than two days after the change before"
         earlier = change
     return None
 

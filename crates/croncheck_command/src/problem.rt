@@ -84,10 +84,10 @@ impl fmt::Display for Problem {
             Problem::UntilBeforeFrom => f.write_str("--until lies before --from"),
             Problem::Unwritten(error) => write!(f, "the output: {error}"),
             Problem::Unsaved(error) if error.kind() == io::ErrorKind::AlreadyExists => f.write_str(
-                "--output: its name with .part behind it is there: another call writes it now, or was ended while it did; then remove it",
+                "--output: its name with .part at the end is there already: another call is writing it, or was stopped while it wrote; in that case remove it",
             ),
             Problem::Unsaved(error) => write!(f, "--output: the file isn't written: {error}"),
-            Problem::Unread => f.write_str("a file isn't read, so that no plan of them is written"),
+            Problem::Unread => f.write_str("a file isn't read, so no plan is written"),
             Problem::OutOfMemory => f.write_str("out of memory"),
         }
     }
@@ -114,7 +114,7 @@ fn write_stop<W: fmt::Write>(
     match next {
         Some(next) => write!(f, "; runs are listed from --from @{next} on"),
         None => f.write_str(
-            "; no start that has a clock was found behind it: write another --from, or another --zone",
+            "; no later start that has a clock was found: write another --from, or another --zone",
         ),
     }
 }

@@ -465,7 +465,7 @@ fn told_beside_root(
 // What is told of an option that stands after all files.
 fn told_of_option_after_files(alloc: Global, option: &str) -> NoCall {
     told_by_text(format!(in alloc;
-        "error: {option} holds for the files behind it, and stands behind all of them: write it in front of them\n"
+        "error: {option} holds for the files after it, and none follows: write it in front of the files\n"
     ))
 }
 

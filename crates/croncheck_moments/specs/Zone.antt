@@ -96,16 +96,16 @@ colon_fault zone = codes " begins with a colon: write the zone alone, here " ++ 
 abbrev pub hours_fault : List ℕ → List ℕ
 hours_fault hours =
     codes " is a rule with " ++ (hours
-    ++ codes " behind the sign: write hours from 0 to 24 there, as CET-1, an hour ahead of UTC, or EST+5, five hours behind it")
+    ++ codes " after the sign: write hours from 0 to 24 there, as CET-1, an hour ahead of UTC, or EST+5, five hours behind it")
 
 abbrev pub no_dates_fault : List ℕ → List ℕ
-no_dates_fault word = codes " is a rule that lacks the dates of its summer time: write them behind it, as " ++ (word ++ (codes "," ++ dates))
+no_dates_fault word = codes " is a rule that lacks the dates of its summer time: write them after it, as " ++ (word ++ (codes "," ++ dates))
 
 abbrev pub no_summer_fault : List ℕ → List ℕ
 no_summer_fault front = codes " is a rule without summer time, which no comma and no date follows: write " ++ (front ++ codes " alone")
 
 abbrev pub two_dates_fault : List ℕ
-two_dates_fault = codes " is a rule that hasn't two dates: write the first day of summer time and the first behind it, as " ++ dates
+two_dates_fault = codes " is a rule that hasn't two dates: write the first day of summer time and the first day after it, as " ++ dates
 
 abbrev pub front_fault : List ℕ → List ℕ
 front_fault front =
@@ -119,7 +119,7 @@ date_fault date =
 
 abbrev pub time_fault : List ℕ → List ℕ
 time_fault time =
-    codes " is a rule with the time " ++ (time ++ codes " behind a date: write hours from -167 to 167, as /3 or /2:30")
+    codes " is a rule with the time " ++ (time ++ codes " after a date: write hours from -167 to 167, as /3 or /2:30")
 
 -- what is said of a fault
 abbrev pub fault_text : ZoneFault → List ℕ

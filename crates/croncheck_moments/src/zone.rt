@@ -294,11 +294,11 @@ impl fmt::Display for ZoneFault<'_> {
             }
             ZoneFault::Hours(hours) => write!(
                 f,
-                " is a rule with {hours} behind the sign: write hours from 0 to 24 there, as CET-1, an hour ahead of UTC, or EST+5, five hours behind it"
+                " is a rule with {hours} after the sign: write hours from 0 to 24 there, as CET-1, an hour ahead of UTC, or EST+5, five hours behind it"
             ),
             ZoneFault::NoDates(word) => write!(
                 f,
-                " is a rule that lacks the dates of its summer time: write them behind it, as {word},{DATES}"
+                " is a rule that lacks the dates of its summer time: write them after it, as {word},{DATES}"
             ),
             ZoneFault::NoSummer(front) => write!(
                 f,
@@ -306,7 +306,7 @@ impl fmt::Display for ZoneFault<'_> {
             ),
             ZoneFault::NotTwoDates => write!(
                 f,
-                " is a rule that hasn't two dates: write the first day of summer time and the first behind it, as {DATES}"
+                " is a rule that hasn't two dates: write the first day of summer time and the first day after it, as {DATES}"
             ),
             ZoneFault::Front(front) => write!(
                 f,
@@ -318,7 +318,7 @@ impl fmt::Display for ZoneFault<'_> {
             ),
             ZoneFault::Time(time) => write!(
                 f,
-                " is a rule with the time {time} behind a date: write hours from -167 to 167, as /3 or /2:30"
+                " is a rule with the time {time} after a date: write hours from -167 to 167, as /3 or /2:30"
             ),
         }
     }

@@ -326,7 +326,7 @@ fn hint_of_name(name: &str) -> &'static str {
     } else if has_letters_alone(name) {
         "; the commands are check, show, plan, next and describe"
     } else if may_be_pattern(name) {
-        "; a pattern stands behind a command, in quotes: croncheck next '*/5 * * * *'"
+        "; a pattern follows a command, in quotes: croncheck next '*/5 * * * *'"
     } else {
         ""
     }

@@ -6,10 +6,10 @@ use Rattle.croncheck_report.specs.FileSeen.{File, has_many_lines, if_so, ignored
 
 -- the reasons, one put after the other
 pub reasons_after : (f : File) (dialect : Dialect) (lines : ℕ) (name : List ℕ) (many : Bool) (said none at_first one two all : List ℕ)
-    → name ≡ f.name → many ≡ has_many_lines dialect lines f → said ≡ many_lines_text dialect ++ codes "\n" → none ≡ []
+    → name ≡ f.name → many ≡ has_many_lines dialect lines f → said ≡ many_lines_text dialect ++ codes " (many-lines)\n" → none ≡ []
     → at_first ≡ none ++ unfit_reason name f.unfit
     → one ≡ at_first ++ if_so f.has_refused (ignored name (codes "a line is refused\n"))
-    → two ≡ one ++ if_so f.is_unfed (ignored name (codes "its last line has no line feed\n"))
+    → two ≡ one ++ if_so f.is_unfed (ignored name (codes "its last line has no line feed (no-newline)\n"))
     → all ≡ two ++ if_so many (ignored name said)
     → all ≡ reasons_of dialect lines f
 reasons_after f dialect lines name many said none at_first one two all name_is many_is said_is none_is first_is one_is two_is all_is =

@@ -109,7 +109,7 @@ has_many_lines dialects.Patterns lines f = false
 -- what is said of it
 abbrev pub many_lines_text : Dialect → List ℕ
 many_lines_text dialects.User = codes "it has more than 10000 lines"
-many_lines_text dialects.System = codes "a job or a setting stands behind line 10003"
+many_lines_text dialects.System = codes "a job or a setting stands after line 10003"
 many_lines_text dialects.Patterns = []
 
 -- what is said of a file of this name that cron ignores for what the file system says of it, if it does
@@ -132,8 +132,8 @@ is_ignored dialects.Patterns lines f = false
 abbrev pub reasons_of : Dialect → ℕ → File → List ℕ
 reasons_of dialect lines f =
     ((unfit_reason f.name f.unfit ++ if_so f.has_refused (ignored f.name (codes "a line is refused\n")))
-    ++ if_so f.is_unfed (ignored f.name (codes "its last line has no line feed\n")))
-    ++ if_so (has_many_lines dialect lines f) (ignored f.name (many_lines_text dialect ++ codes "\n"))
+    ++ if_so f.is_unfed (ignored f.name (codes "its last line has no line feed (no-newline)\n")))
+    ++ if_so (has_many_lines dialect lines f) (ignored f.name (many_lines_text dialect ++ codes " (many-lines)\n"))
 
 -- the same of a file, which may be one of patterns: cron doesn't read it
 abbrev pub whole_of : Dialect → ℕ → File → List ℕ

@@ -188,7 +188,7 @@ impl FileSeen {
             &mut text,
             self.is_unfed,
             name,
-            "its last line has no line feed\n",
+            "its last line has no line feed (no-newline)\n",
         )?;
         push_if(&mut text, has_many, name, many_lines_line(dialect))?;
         Ok(text)
@@ -201,19 +201,19 @@ pub fn many_lines_text(dialect: Dialect) -> &'static str
 {
     match dialect {
         Dialect::User => "it has more than 10000 lines",
-        Dialect::System => "a job or a setting stands behind line 10003",
+        Dialect::System => "a job or a setting stands after line 10003",
         Dialect::Patterns => "",
     }
 }
 
-// The same, as a line.
+// The same as a line, with the name.
 fn many_lines_line(dialect: Dialect) -> &'static str
-    ensures { result.now ≡ many_lines_text dialect ++ codes "\n" }
+    ensures { result.now ≡ many_lines_text dialect ++ codes " (many-lines)\n" }
 {
     match dialect {
-        Dialect::User => "it has more than 10000 lines\n",
-        Dialect::System => "a job or a setting stands behind line 10003\n",
-        Dialect::Patterns => "\n",
+        Dialect::User => "it has more than 10000 lines (many-lines)\n",
+        Dialect::System => "a job or a setting stands after line 10003 (many-lines)\n",
+        Dialect::Patterns => " (many-lines)\n",
     }
 }
 

@@ -64,17 +64,17 @@ unfed = record (unread (codes "backup")) { is_unfed = true }
 a_refused_line : ending_of dialects.User 3 refused ≡ codes "backup: cron ignores the whole file: a line is refused\n"
 a_refused_line = refl
 
-no_line_feed : ending_of dialects.System 3 unfed ≡ codes "backup: cron ignores the whole file: its last line has no line feed\n"
+no_line_feed : ending_of dialects.System 3 unfed ≡ codes "backup: cron ignores the whole file: its last line has no line feed (no-newline)\n"
 no_line_feed = refl
 
-too_many_lines : ending_of dialects.User 10_001 (unread (codes "backup")) ≡ codes "backup: cron ignores the whole file: it has more than 10000 lines\n"
+too_many_lines : ending_of dialects.User 10_001 (unread (codes "backup")) ≡ codes "backup: cron ignores the whole file: it has more than 10000 lines (many-lines)\n"
 too_many_lines = refl
 
 as_many_lines_as_cron_takes : ending_of dialects.User 10_000 (unread (codes "backup")) ≡ []
 as_many_lines_as_cron_takes = refl
 
 a_late_job : ending_of dialects.System 10_004 (record (unread (codes "backup")) { has_late = true })
-    ≡ codes "backup: cron ignores the whole file: a job or a setting stands behind line 10003\n"
+    ≡ codes "backup: cron ignores the whole file: a job or a setting stands after line 10003 (many-lines)\n"
 a_late_job = refl
 
 two_hard_links : ending_of dialects.System 3 (record refused { unfit = Some unfits.Links })

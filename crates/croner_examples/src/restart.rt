@@ -17,7 +17,7 @@ use std::fs;
 /// Where the positions are kept.
 const POSITIONS: &str = "positions.json";
 
-type Tasks<'t> = Scheduler<Task<Plan>, TableTime<'t>>;
+type PlannedTasks<'t> = Scheduler<Task<Plan>, TableTime<'t>>;
 
 // Each midnight.
 fn backup(alloc: Global) -> anyhow::Result<Plan> {
@@ -49,7 +49,7 @@ fn probe() -> Option<Plan> {
 // Adds a job at its position, or at `now` if that wasn't kept.
 fn add<'t>(
     alloc: Global,
-    tasks: &mut Tasks<'t>,
+    tasks: &mut PlannedTasks<'t>,
     name: &str,
     when: Plan,
     kept: &Value,
@@ -63,7 +63,11 @@ fn add<'t>(
 }
 
 // What the program does when it starts: it adds its jobs at their positions, and starts what is due.
-fn start<'t>(rt: &HostRuntime, tasks: &mut Tasks<'t>, now: &TableTime<'t>) -> anyhow::Result<()> {
+fn start<'t>(
+    rt: &HostRuntime,
+    tasks: &mut PlannedTasks<'t>,
+    now: &TableTime<'t>,
+) -> anyhow::Result<()> {
     let (alloc, kept) = (rt.alloc(), kept_in(rt, POSITIONS)?);
     add(alloc, tasks, "backup", backup(alloc)?, &kept, now)?;
     add(alloc, tasks, "mail", mail(alloc)?, &kept, now)?;

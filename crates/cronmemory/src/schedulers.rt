@@ -65,7 +65,7 @@ fn with_calls_after<T: Clocked>(
     answer: Result<Value>,
     is_same: bool,
 ) -> Result<Outcome> {
-    let (alloc, calls) = (caller.alloc, list(question, "behind")?);
+    let (alloc, calls) = (caller.alloc, list(question, "after")?);
     let answers = call_in_turn(Caller::without_marks(alloc), scheduler, named, calls)?;
     let after = format!(in alloc; "{is_same} {answers}");
     Outcome::new(answer_of(answer), Ok(after?))
@@ -76,7 +76,7 @@ fn answer_of(answer: Result<Value>) -> Result<Answer> {
 }
 
 /// A call of a scheduler as the calls `before` leave it. Afterwards whether a call that lacked memory left each job as it was.
-/// Also what the calls `behind` answer, once a call that lacked memory was made again with memory.
+/// Also what the calls `after` answer, once a call that lacked memory was made again with memory.
 pub fn call_of_scheduler(caller: Caller<'_>, question: &Value) -> Result<Outcome> {
     over_clocks(caller, question, &OneCall { question })
 }

@@ -10,7 +10,7 @@ use Rattle.cronplan_forms.specs.declared.clock.ClockTime.{ClockTime}
 use Rattle.cronplan_forms.specs.Answers.{starts_text, hour_line, times_text, joined, joined_after, added_label, busy_text, cut_line, no_moment, no_window, silence_text, window_text}
 use Rattle.cronplan_forms.specs.Apart.{set_apart}
 use Rattle.cronplan_forms.specs.Clocks.{ahead_text, clock_text, lasting_text}
-use Rattle.cronplan_forms.specs.DateNames.{month_text}
+use Rattle.cronplan_forms.specs.DateNames.{short_month_name}
 use Rattle.cronplan_forms.specs.Weeks.{is_put_forward}
 
 one_start : starts_text 1 ≡ codes "1 start"
@@ -31,7 +31,7 @@ two_hours_ahead : ahead_text (pos 7_200) ≡ codes "+02:00"
 unfolding digits
 two_hours_ahead = refl
 
-march : month_text 3 ≡ codes "Mar"
+march : short_month_name 3 ≡ codes "Mar"
 march = refl
 
 two_jobs : joined (codes "a:1" ∷ codes "b:2" ∷ []) (0 ∷ 1 ∷ []) ≡ codes "a:1 + b:2"

@@ -36,15 +36,15 @@ runs_cut [] some = absurd (omega (arith, some))
 runs_cut (s ∷ ss) some = cut_at s ss
 
 -- one run more, as a value
-pub run_more : (runs new : List WindowRun) (run : WindowRun) (rest behind : List ShownWindow) (n : ℕ) (all : List (List ShownWindow)) → new ≡ runs ++ run ∷ [] → 0 < length rest
-    → n ≡ suc (run_steps rest) → windows_of run ≡ take n rest → behind ≡ drop n rest → map windows_of runs ++ window_runs rest ≡ all
-    → map windows_of new ++ window_runs behind ≡ all
-run_more runs new run rest behind n all is some long first after so_far =
-    let cut : window_runs rest ≡ windows_of run ∷ window_runs behind =
+pub run_more : (runs new : List WindowRun) (run : WindowRun) (rest left : List ShownWindow) (n : ℕ) (all : List (List ShownWindow)) → new ≡ runs ++ run ∷ [] → 0 < length rest
+    → n ≡ suc (run_steps rest) → windows_of run ≡ take n rest → left ≡ drop n rest → map windows_of runs ++ window_runs rest ≡ all
+    → map windows_of new ++ window_runs left ≡ all
+run_more runs new run rest left n all is some long first after so_far =
+    let cut : window_runs rest ≡ windows_of run ∷ window_runs left =
     runs_cut rest some ∙ ap (λ (m : ℕ). take m rest ∷ window_runs (drop m rest)) (sym long) ∙ ap (λ (w : List ShownWindow). w ∷ window_runs (drop n rest)) (sym first)
     ∙ ap (λ (b : List ShownWindow). windows_of run ∷ window_runs b) (sym after) in
-    ap (λ (rs : List WindowRun). map windows_of rs ++ window_runs behind) is ∙ ap (λ (ws : List (List ShownWindow)). ws ++ window_runs behind) (map_push windows_of runs run)
-    ∙ append_assoc (map windows_of runs) (windows_of run ∷ []) (window_runs behind) ∙ ap (λ (ws : List (List ShownWindow)). map windows_of runs ++ ws) (sym cut) ∙ so_far
+    ap (λ (rs : List WindowRun). map windows_of rs ++ window_runs left) is ∙ ap (λ (ws : List (List ShownWindow)). ws ++ window_runs left) (map_push windows_of runs run)
+    ∙ append_assoc (map windows_of runs) (windows_of run ∷ []) (window_runs left) ∙ ap (λ (ws : List (List ShownWindow)). map windows_of runs ++ ws) (sym cut) ∙ so_far
 
 -- the first runs of all
 pub first_lines : (is_whole : Bool) (runs longest : List WindowRun) → longest ≡ take most_longest runs

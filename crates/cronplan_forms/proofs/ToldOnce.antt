@@ -5,7 +5,7 @@ use Rattle.std.specs.List.{All, flat_map}
 use Rattle.cronplan_forms.specs.declared.answers.quiet.ShownWindow.{ShownWindow}
 use Rattle.cronplan_forms.specs.WindowRuns.{IsRun, before_runs, comes_again, window_runs}
 
--- the windows of runs, one behind the other
+-- the windows of runs, one after the other
 abbrev pub windows_in : List (List ShownWindow) → List ShownWindow
 windows_in runs = flat_map (λ (run : List ShownWindow). run) runs
 

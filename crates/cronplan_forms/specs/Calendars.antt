@@ -105,8 +105,8 @@ abbrev pub cut_text : ℕ → List ℕ
 cut_text count = if nat_le count most_events then [] else codes " These are the first 2000 of " ++ (decimal count ++ codes " starts.")
 
 -- what is told of a calendar: what is left out
-unfoldable pub left_out_text : Calendar → List ℕ
-left_out_text c = c.left_out.now ++ cut_text c.starts
+unfoldable pub description_text : Calendar → List ℕ
+description_text c = c.left_out.now ++ cut_text c.starts
 
 -- the begin of a calendar: the version of the format, and who wrote it
 unfoldable pub calendar_begin : List ℕ
@@ -120,7 +120,7 @@ calendar_names name = text_line (codes "NAME") name ++ text_line (codes "X-WR-CA
 
 -- the head of a calendar
 unfoldable pub calendar_head : Calendar → List ℕ
-calendar_head c = calendar_begin ++ (calendar_names c.name.now ++ text_line (codes "DESCRIPTION") (left_out_text c))
+calendar_head c = calendar_begin ++ (calendar_names c.name.now ++ text_line (codes "DESCRIPTION") (description_text c))
 
 -- some events
 unfoldable pub events_text : Calendar → List Event → List ℕ

@@ -25,8 +25,8 @@ pub record IsDateName (date : ℤ) (d : DateName) : Type 0 where
   pub civil : MatchOption d.civil ((c : CivilDateTime) → FitsSigned w32 c.date.year → ¬ (wall_second c ≡ second_of_date date)) (λ c. wall_second c ≡ second_of_date date)
 
 -- the front of a month's name
-abbrev pub month_text : ℕ → List ℕ
-month_text n =
+abbrev pub short_month_name : ℕ → List ℕ
+short_month_name n =
     if n == 1 then codes "Jan"
     else if n == 2 then codes "Feb"
     else if n == 3 then codes "Mar"
@@ -43,7 +43,7 @@ month_text n =
 -- the day and the month; the number of a date that no year of 32 bits has
 abbrev pub day_and_month : Option CivilDateTime → ℤ → List ℕ
 day_and_month None date = signed_decimal date
-day_and_month (Some c) date = two_places c.date.day ++ (32 ∷ month_text c.date.month)
+day_and_month (Some c) date = two_places c.date.day ++ (32 ∷ short_month_name c.date.month)
 
 -- what a date is called
 abbrev pub date_name_text : DateName → List ℕ

@@ -1,6 +1,6 @@
 //! The starts of jobs as a calendar (RFC 5545).
 ghost use Rattle.std.specs.Prelude.{◌≡◌, ◌++◌, codes, take, IfOk, OnOk, string_bytes};
-ghost use Rattle.cronplan_forms.specs.Calendars.{property_line, text_line, most_events, cut_text, left_out_text, calendar_begin, calendar_names, calendar_head, events_text, calendar_text};
+ghost use Rattle.cronplan_forms.specs.Calendars.{property_line, text_line, most_events, cut_text, description_text, calendar_begin, calendar_names, calendar_head, events_text, calendar_text};
 
 mod event;
 mod moment;
@@ -99,9 +99,9 @@ fn push_head(alloc: Global, text: &mut String, calendar: Calendar<'_>) -> Result
 }
 
 fn push_left_out(alloc: Global, text: &mut String, calendar: Calendar<'_>) -> Result<(), AllocError>
-    ensures { OnOk result (string_bytes text.new ≡ string_bytes text.old ++ text_line (codes "DESCRIPTION") (left_out_text calendar.entry)) }
+    ensures { OnOk result (string_bytes text.new ≡ string_bytes text.old ++ text_line (codes "DESCRIPTION") (description_text calendar.entry)) }
 {
-    let left_out = left_out_text(alloc, calendar)?;
+    let left_out = description_text(alloc, calendar)?;
     push_text(alloc, text, "DESCRIPTION", left_out.as_str())
 }
 
@@ -123,9 +123,9 @@ fn push_names(alloc: Global, text: &mut String, name: &str) -> Result<(), AllocE
 }
 
 // What a calendar leaves out.
-#[tactic(auto, unfolding(crate::specs::Calendars::left_out_text))]
-fn left_out_text(alloc: Global, calendar: Calendar<'_>) -> Result<String, AllocError>
-    ensures { IfOk result (λ t. string_bytes t ≡ left_out_text calendar.entry) }
+#[tactic(auto, unfolding(crate::specs::Calendars::description_text))]
+fn description_text(alloc: Global, calendar: Calendar<'_>) -> Result<String, AllocError>
+    ensures { IfOk result (λ t. string_bytes t ≡ description_text calendar.entry) }
 {
     let mut text = String::from_str(alloc, calendar.left_out)?;
     push_cut(&mut text, calendar.starts)?;

@@ -2,7 +2,7 @@
 ghost use Rattle.std.specs.Prelude.{◌≡◌};
 ghost use Rattle.croner_base.specs.Calendar.{weekday_of_day};
 ghost use Rattle.croner_base.specs.Civil.{weekday_index};
-ghost use Rattle.cronplan_forms.specs.DateNames.{IsDateName, date_of_wall, month_text, second_of_date};
+ghost use Rattle.cronplan_forms.specs.DateNames.{IsDateName, date_of_wall, short_month_name, second_of_date};
 
 use crate::clock::weekday_text;
 use croner_base::limits::SECONDS_PER_DAY;
@@ -69,7 +69,7 @@ impl fmt::Display for DateName {
         let (date, weekday) = (self.date, weekday_text(self.weekday));
         match self.civil {
             Some(civil) => {
-                let (day, month) = (civil.day(), month_text(civil.month()));
+                let (day, month) = (civil.day(), short_month_name(civil.month()));
                 write!(f, "{weekday} {day:02} {month}")
             }
             None => write!(f, "{weekday} {date}"),
@@ -78,8 +78,8 @@ impl fmt::Display for DateName {
 }
 
 /// The abbreviation of a month's name, by its number from 1 to 12: `Mar`.
-pub(crate) fn month_text(month: u32) -> &'static str
-    ensures { result.now ≡ month_text month }
+pub(crate) fn short_month_name(month: u32) -> &'static str
+    ensures { result.now ≡ short_month_name month }
 {
     match month {
         1 => "Jan",

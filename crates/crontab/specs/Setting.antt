@@ -40,14 +40,14 @@ abbrev pub is_setting : List ℕ → Bool
 is_setting text = is_assigned (text_after_name (take setting_length text))
 
 -- the name that a setting begins with, without its quotes
-abbrev pub name_of : List ℕ → List ℕ
-name_of [] = []
-name_of (c ∷ cs) = if is_quote c then front (kinds.But c) cs else front kinds.Name (c ∷ cs)
+abbrev pub setting_name : List ℕ → List ℕ
+setting_name [] = []
+setting_name (c ∷ cs) = if is_quote c then front (kinds.But c) cs else front kinds.Name (c ∷ cs)
 
 -- a setting's variable is one that says a zone elsewhere: `CRON_TZ` or `TZ`
 abbrev pub sets_zone : List ℕ → Bool
 sets_zone text =
-    let name = name_of (take setting_length text) in bytes_eq name (codes "CRON_TZ") || bytes_eq name (codes "TZ")
+    let name = setting_name (take setting_length text) in bytes_eq name (codes "CRON_TZ") || bytes_eq name (codes "TZ")
 
 -- ---- what a shell would expand, or leave out
 
@@ -57,8 +57,8 @@ value_text None = []
 value_text (Some text) = text_after kinds.Space (rest_of (text_after kinds.Space text))
 
 -- a setting's value, with its quotes
-abbrev pub value_of : List ℕ → List ℕ
-value_of text = value_text (text_after_name (take setting_length text))
+abbrev pub setting_value : List ℕ → List ℕ
+setting_value text = value_text (text_after_name (take setting_length text))
 
 abbrev pub is_quoted : List ℕ → Bool
 is_quoted [] = false
@@ -85,4 +85,4 @@ is_to_expand value = has 36 value || (has_home (without_quote value) || (not (is
 
 -- the setting's value has what cron takes as it stands, and a shell doesn't
 abbrev pub is_not_expanded : List ℕ → Bool
-is_not_expanded text = is_to_expand (value_of text)
+is_not_expanded text = is_to_expand (setting_value text)

@@ -560,6 +560,6 @@ pub fn text(note: Note) -> &'static str {
             "cron has no L, W, ? and +: write * for ?, leave + out, and let the command test for a last or a nearest day",
         Note::CapitalNickname => "cron knows a nickname in small letters alone: write it so",
         Note::Seconds =>
-            "cron has no field of seconds: leave out the first field, and what cron doesn't take of the five behind it, as * for ?",
+            "cron has no field of seconds: leave out the first field, and write what cron takes in the five after it, as * for ?",
     }
 }

@@ -2,7 +2,7 @@
 ghost use Rattle.std.specs.Prelude.{◌≡◌, ◌==◌, ◌≤◌, length, take, option_map};
 ghost use Rattle.std.specs.List.{list_any, slice_split};
 ghost use Rattle.crontab.specs.Bytes.{is_blank, begins_with};
-ghost use Rattle.crontab.specs.Setting.{setting_length, has, text_after_quoted, text_after_name, is_value, is_assigned, is_setting, name_of, sets_zone, value_text, value_of, is_quoted, without_quote, begins_home, has_home, has_comment, is_to_expand, is_not_expanded};
+ghost use Rattle.crontab.specs.Setting.{setting_length, has, text_after_quoted, text_after_name, is_value, is_assigned, is_setting, setting_name, sets_zone, value_text, setting_value, is_quoted, without_quote, begins_home, has_home, has_comment, is_to_expand, is_not_expanded};
 
 use crate::bytes::{Kind, begins_with, cut, is_blank, is_quote, rest_of};
 
@@ -20,13 +20,13 @@ pub fn is_setting(text: &[u8]) -> bool
 pub fn sets_zone(text: &[u8]) -> bool
     ensures { result ≡ sets_zone text.now }
 {
-    let name = name_of(start_of(text));
+    let name = setting_name(start_of(text));
     name == "CRON_TZ".as_bytes() || name == "TZ".as_bytes()
 }
 
 // The name, without its quotes.
-fn name_of(text: &[u8]) -> &[u8]
-    ensures { result.now ≡ name_of text.now }
+fn setting_name(text: &[u8]) -> &[u8]
+    ensures { result.now ≡ setting_name text.now }
 {
     match text {
         [] => text,
@@ -135,8 +135,8 @@ fn value_text(after: Option<&[u8]>) -> &[u8]
 }
 
 // A setting's value, with its quotes.
-fn value_of(text: &[u8]) -> &[u8]
-    ensures { result.now ≡ value_of text.now }
+fn setting_value(text: &[u8]) -> &[u8]
+    ensures { result.now ≡ setting_value text.now }
 {
     value_text(text_after_name(start_of(text)))
 }
@@ -202,5 +202,5 @@ fn is_to_expand(value: &[u8]) -> bool
 pub fn is_not_expanded(text: &[u8]) -> bool
     ensures { result ≡ is_not_expanded text.now }
 {
-    is_to_expand(value_of(text))
+    is_to_expand(setting_value(text))
 }

@@ -337,19 +337,19 @@ fn allow<'w>(alloc: Global) -> Result<Arg<'w>, AllocError> {
 fn with_kinds<'w>(alloc: Global, command: Command<'w>) -> Result<Command<'w>, AllocError> {
     command
         .arg(kind(alloc, "system").help(
-            "In the files behind it a user stands before each command; so it is without this option in /etc/crontab and in files of a folder cron.d",
+            "In the files after it a user stands before each command, as in /etc/crontab and the files of a folder cron.d without this option",
         ))?
         .arg(kind(alloc, "user").help(
-            "In the files behind it no user stands before the commands, whatever they are named",
+            "In the files after it no user stands before the commands, whatever the files are named",
         ))?
         .arg(kind(alloc, "patterns").help(
-            "In the files behind it each line is a pattern of five to seven fields, and no command",
+            "In the files after it each line is a pattern of five to seven fields, without a command",
         ))?
         .arg(value(alloc, "stdin-name", "NAME").help(
             "The name of standard input: it is told under this name, and read as a file of this name",
         ))?
         .arg(value(alloc, "users", "FILE").help(
-            "The users there are, as /etc/passwd has them: a job of another one is refused, as cron does",
+            "The users there are, as /etc/passwd has them: a job of any other user is refused, as by cron",
         ))?
         .arg(value(alloc, "root", "DIR").help(
             "In place of files: the crontabs of the machine whose files stand below DIR, its users and its zone",

@@ -136,7 +136,7 @@ pub(super) fn with_planning<'w>(
     command: Command<'w>,
 ) -> Result<Command<'w>, AllocError> {
     let command = command.arg(flag(alloc, "commands").help(
-        "Shows the front of each command behind the title of its job; commands may hold passwords",
+        "Shows the beginning of each command after the title of its job; commands may hold passwords",
     ))?;
     with_questions(alloc, command)
 }

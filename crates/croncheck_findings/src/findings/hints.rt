@@ -92,7 +92,7 @@ fn is_other_blank(sign: char) -> bool {
     )
 }
 
-// It is a quote of print.
+// It is a typographic quote.
 fn is_curly(sign: char) -> bool {
     matches!(sign, '\u{2018}'..='\u{201f}' | '\u{ab}' | '\u{bb}')
 }
@@ -106,11 +106,11 @@ pub(super) fn push_sign(text: &mut String, sign: char) -> Result<(), AllocError>
         );
     }
     let words = if is_curly(sign) {
-        "is a quote of print, which has no meaning here: leave it out"
+        "is a typographic quote, which has no meaning here: leave it out"
     } else if is_other_blank(sign) {
-        "looks like a blank and is none to cron: write a space"
+        "looks like a space, but is none to cron: write a space"
     } else {
-        "is not seen, and is a part of the word: take it out"
+        "is invisible, and a part of the word: take it out"
     };
     write!(text, ": U+{code:04X} {words}")
 }
@@ -132,11 +132,11 @@ fn words_of_another(fault: Fault, line: &[u8], field: &[u8], part: &[u8]) -> Opt
 fn words_of_first(line: &[u8], word: &[u8]) -> Option<&'static str> {
     if is_one_of(word, &["export", "set", "setenv", "declare"]) {
         return Some(
-            "this is no shell: a setting is NAME=value alone, and the commands have it: leave out the first word",
+            "this is no shell: a setting is NAME=value alone, and the commands see it: leave out the first word",
         );
     }
     if is_unset_name(line, word) {
-        return Some("a setting has a = behind its name, as MAILTO=root");
+        return Some("a setting has a = after its name, as MAILTO=root");
     }
     words_of_schedule(word)
 }
@@ -145,7 +145,7 @@ fn words_of_first(line: &[u8], word: &[u8]) -> Option<&'static str> {
 pub(super) fn words_of_schedule(word: &[u8]) -> Option<&'static str> {
     if word.starts_with(b"cron(") {
         return Some(
-            "cron(..) is of AWS: write its first five fields without it, * for ?, and leave out the year behind them",
+            "cron(..) is of AWS: write its first five fields alone, with * for ?, and no year",
         );
     }
     if word.starts_with(b"rate(") || is_word(word, "every") {
@@ -181,7 +181,7 @@ fn is_name_of_setting(word: &[u8]) -> bool {
 fn words_of_part(line: &[u8], part: &[u8]) -> Option<&'static str> {
     if is_word(part, "?") {
         return Some(if has_year(line) {
-            "cron has no ? and no field of years: write * for ?, and leave out what stands behind the weekdays"
+            "cron has no ? and no field of years: write * for ?, and leave out the year after the weekdays"
         } else {
             "cron has no ?: write *"
         });
@@ -280,7 +280,7 @@ fn push_expected(text: &mut String, expected: &Expected) -> Result<bool, AllocEr
             let stepped = Stepped {
                 suggestion: *suggestion,
             };
-            write!(text, ": a step stands behind * or a range{stepped}")?;
+            write!(text, ": a step may only follow * or a range{stepped}")?;
         }
         Expected::Character(ExpectedCharacter::Legal { hint, .. }) if holds_for_cron(*hint) => {
             write!(text, ": this sign has no meaning here.{hint}")?;
@@ -356,7 +356,7 @@ pub(super) enum Meant {
 impl fmt::Display for Meant {
     fn fmt<W: fmt::Write>(&self, f: &mut fmt::Formatter<W>) -> fmt::Result {
         match self {
-            Meant::NoName => f.write_str("no blank stands behind the @: write @daily"),
+            Meant::NoName => f.write_str("no blank may follow the @: write @daily"),
             Meant::Noon => f.write_str("write 0 12 * * *"),
             Meant::Minutes(minutes) => write!(f, "write */{minutes} * * * *"),
             Meant::Hours(hours) => write!(f, "write 0 */{hours} * * *"),

@@ -86,7 +86,7 @@ fn push_field_reason(
         let count = fields_before(fault);
         return write!(
             text,
-            "{said}: the line has only {count} of the five fields, behind which the command stands"
+            "{said}: the line has only {count} of the five fields that stand before the command"
         );
     }
     if has(field, END_OF_FILE) {

@@ -83,7 +83,7 @@ pub const RULES: [Rule; 55] = [
     },
     Rule {
         name: "file-owner",
-        text: "The file is another user's than it has to be, so cron ignores it.",
+        text: "The file belongs to another user than it has to, so cron ignores it.",
     },
     Rule {
         name: "file-type",
@@ -147,7 +147,7 @@ pub const RULES: [Rule; 55] = [
     },
     Rule {
         name: "looks-like-field",
-        text: "What stands behind the five fields may be meant as a sixth.",
+        text: "What follows the five fields may be meant as a sixth.",
     },
     Rule {
         name: "percent",
@@ -199,7 +199,7 @@ pub const RULES: [Rule; 55] = [
     },
     Rule {
         name: "not-needed",
-        text: "A comment allows a warning that doesn't stand.",
+        text: "A comment allows a warning that the line doesn't have.",
     },
     Rule {
         name: "unknown-name",

@@ -182,7 +182,7 @@ const RANGE_DOWN: &str =
     "A range that goes down names nothing to cron. Write it as two, as `22-23,0-4` for `22-4`, and `fri-7` for `fri-sun`.";
 
 const PASSED_OVER: &str =
-    "Cron passes over what stands behind a number, a name or a star and is no comma, with the rest of the field: `1#2` is 1, `0~5` is 0, `*5` is each value. Write only what counts.";
+    "Cron passes over what follows a number, a name or a star without a comma, with the rest of the field: `1#2` is 1, `0~5` is 0, `*5` is each value. Write only what counts.";
 
 const LARGE_NUMBER: &str =
     "Cron keeps of a number what is left after division by 4294967296. Write that number.";
@@ -200,13 +200,13 @@ const NEVER: &str =
     "No run is left before year 5000. Look for a date that doesn't exist, a range that runs down, as `10-5`, or a time that the clock skips.";
 
 const NO_COMMAND: &str =
-    "The line has no command, so cron starts a shell that does nothing. Write the command behind the times; for none put `#` in front of the line.";
+    "The line has no command, so cron starts a shell that does nothing. Write the command after the times, or put `#` in front of the line.";
 
 const LOOKS_LIKE_FIELD: &str =
     "A crontab has five fields, so a sixth is taken for the command or the user. Take one field out: seconds and years have no place there.";
 
 const USER: &str =
-    "In a crontab of the system the word behind the times is the user who runs the command; in a user's crontab it is the command. Put the user's name in, or take it out.";
+    "In a crontab of the system the word after the times is the user who runs the command; in a user's crontab it is the command. Put the user's name in, or take it out.";
 
 const PERCENT: &str =
     "Cron ends the command at a percent sign that no backslash takes in, and gives it what follows as its input. Write `\\%` for a percent sign.";
@@ -224,7 +224,7 @@ const NO_ZONE: &str =
     "This cron doesn't run jobs in the zone of a setting: it is only a variable of the commands. Write the times in the machine's zone.";
 
 const NOT_EXPANDED: &str =
-    "Cron takes a value as it stands: it expands neither `$` nor `~`, and a comment behind it is a part of it. Write the whole path, and put a comment on a line of its own.";
+    "Cron takes a value as it stands: it expands neither `$` nor `~`, and a comment after it is a part of it. Write the whole path, and put a comment on a line of its own.";
 
 const CARRIAGE_RETURN: &str =
     "The line ends with a carriage return, which becomes part of the command. Save the file with line feeds alone.";

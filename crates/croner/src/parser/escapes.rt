@@ -8,7 +8,7 @@ use std::alloc::{AllocError, Global};
 pub fn found_at(alloc: Global, text: &str, start: usize, end: usize) -> Result<String, AllocError> {
     let (front, piece, rest) = cut(text, start, end);
     let part = part_around(text, front, rest);
-    let number = number_of(alloc, piece)?;
+    let number = code_point_of(alloc, piece)?;
     if part.len() <= piece.len() {
         let piece = Excerpt::of(piece);
         return format!(in alloc; "{piece}{number}");
@@ -19,7 +19,7 @@ pub fn found_at(alloc: Global, text: &str, start: usize, end: usize) -> Result<S
 }
 
 /// The number of a text's only character, as ` (U+2013)`; nothing if that is ASCII, or is shown by its number.
-fn number_of(alloc: Global, piece: &str) -> Result<String, AllocError> {
+fn code_point_of(alloc: Global, piece: &str) -> Result<String, AllocError> {
     let Some(c) = only_char(piece) else {
         return Ok(String::new(alloc));
     };

@@ -82,20 +82,20 @@ impl fmt::Display for ExpectedNickname {
                 "no such nickname: an interval is a step, as in {pattern} for each fifth minute."
             ),
             ExpectedNickname::WithoutYear => f.write_str(
-                "these settings want a year, which a nickname has not: write seven fields.",
+                "these settings want a year, which a nickname doesn't have: write seven fields.",
             ),
             ExpectedNickname::OfTimeWithoutYear => f.write_str(
-                "@reboot names no time, and these settings want a year, which a nickname has not: write seven fields.",
+                "@reboot names no time, and these settings want a year, which a nickname doesn't have: write seven fields.",
             ),
             ExpectedNickname::KnownWithoutYear => f.write_str(
-                "no such nickname, and these settings want a year, which a nickname has not: write seven fields.",
+                "no such nickname, and these settings want a year, which a nickname doesn't have: write seven fields.",
             ),
             ExpectedNickname::InFields { pattern } => write!(
                 f,
-                "these settings want a year, which a nickname has not: write {pattern}."
+                "these settings want a year, which a nickname doesn't have: write {pattern}."
             ),
             ExpectedNickname::NoAtSign => f.write_str(
-                "a pattern has no '@': one stands in front of a nickname alone, as in @daily.",
+                "a pattern has no '@': it stands only in front of a nickname, as in @daily.",
             ),
         }
     }
@@ -119,7 +119,7 @@ impl fmt::Display for ExpectedCharacter {
                 }
                 write!(
                     f,
-                    "this character is not legal here.{hint} Legal are {values} and the signs {signs}."
+                    "this character is not legal here.{hint} Legal here: {values} and the signs {signs}."
                 )
             }
         }
@@ -136,7 +136,7 @@ impl fmt::Display for ExpectedValue {
                 values,
                 hint,
             } => {
-                let side = if after { "behind" } else { "in front of" };
+                let side = if after { "after" } else { "in front of" };
                 write!(f, "expected {values} {side} the '{sign}'.{hint}")
             }
             ExpectedValue::Ascending {
@@ -152,7 +152,7 @@ impl fmt::Display for ExpectedStep {
     fn fmt<W: fmt::Write>(&self, f: &mut fmt::Formatter<W>) -> fmt::Result {
         match *self {
             ExpectedStep::Number { hint } => {
-                write!(f, "expected a step from 1 to 65535 behind the '/'.{hint}")
+                write!(f, "expected a step from 1 to 65535 after the '/'.{hint}")
             }
             ExpectedStep::Shorter => f.write_str(
                 "the step is too long: the value after the last one may be at most 65535.",
@@ -190,7 +190,7 @@ impl ExpectedStar {
 impl ExpectedDay {
     fn sentence(&self) -> &'static str {
         match self {
-            ExpectedDay::Nth => "expected a number from 1 to 5 or L behind the '#'.",
+            ExpectedDay::Nth => "expected a number from 1 to 5 or L after the '#'.",
             ExpectedDay::LastAlone => {
                 "L stands by itself between commas, for the last day of the month, or as LW, for the last one from Monday to Friday."
             }
@@ -198,13 +198,13 @@ impl ExpectedDay {
                 "no day can be counted back from the last one: L is the last day of the month, and LW the last one from Monday to Friday."
             }
             ExpectedDay::LastOfWeekday => {
-                "behind a weekday L stands in the field weekday: here it stands by itself between commas, for the last day of the month, or as LW, for the last one from Monday to Friday."
+                "L after a weekday belongs in the field weekday: here L stands by itself between commas, for the last day of the month, or as LW, for the last one from Monday to Friday."
             }
             ExpectedDay::LastAfterWeekday => {
-                "L stands behind one weekday: 5L is the last Friday of the month."
+                "L may only follow a single weekday: 5L is the last Friday of the month."
             }
             ExpectedDay::NearestAfterDay => {
-                "W stands behind one day of the month: 15W is the day from Monday to Friday that is nearest to the 15th."
+                "W may only follow a single day of the month: 15W is the day from Monday to Friday that is nearest to the 15th."
             }
             ExpectedDay::LastNearest => "the last day of the month from Monday to Friday is LW.",
         }
@@ -261,7 +261,7 @@ impl fmt::Display for TextHint {
             ),
             TextHint::CommandAfter { fields } => write!(
                 f,
-                " If a user, a command or a comment stands behind the first {fields} fields, leave all of it out: a pattern ends before it."
+                " If a user, a command or a comment follows the first {fields} fields, leave all of it out: a pattern ends before it."
             ),
             TextHint::Interval { pattern } => write!(
                 f,
@@ -306,10 +306,10 @@ impl SignHint {
 /// Where a sign is legal, as a sentence to follow another.
 fn sign_words(sign: char) -> &'static str {
     match sign {
-        'L' => " L stands in the day of month, and behind a weekday.",
-        'W' => " W stands only in the day of month, behind a day or behind L.",
+        'L' => " L stands in the day of month, and after a weekday.",
+        'W' => " W stands only in the day of month, after a day or after L.",
         '?' => " ? stands only in the day of month and in the weekday.",
-        '#' => " # stands only in the weekday, behind a weekday, as in FRI#2.",
+        '#' => " # stands only in the weekday, after a weekday, as in FRI#2.",
         '+' => " + stands only in the weekday, once, in front of the whole field.",
         _ => "",
     }
@@ -337,7 +337,7 @@ fn signs_of(field: PatternField) -> &'static str {
             "star (*), slash (/), comma (,), dash (-), question mark (?), L (last day) and W (nearest day from Monday to Friday)"
         }
         PatternField::Weekday => {
-            "star (*), slash (/), comma (,), dash (-), question mark (?), number sign (#) and L behind a weekday (FRI#2, FRI#L) and one plus (+) in front"
+            "star (*), slash (/), comma (,), dash (-), question mark (?), number sign (#) and L after a weekday (FRI#2, FRI#L) and one plus (+) in front"
         }
         PatternField::Seconds
         | PatternField::Minutes

@@ -60,9 +60,9 @@ pub(crate) fn window_runs<'w>(
     let mut runs = Vec::new(alloc);
     let mut rest = windows;
     while !rest.is_empty() {
-        let (first, behind) = rest.split_at(run_length(rest));
+        let (first, left) = rest.split_at(run_length(rest));
         runs.push(WindowRun { windows: first })?;
-        rest = behind;
+        rest = left;
     }
     Ok(runs)
 }
