@@ -7,7 +7,7 @@ use croner::{Clocked, Recurring};
 /// A job that runs at a first second, and from then on every so many seconds, whatever the clock shows.
 ///
 /// If its zone's time library doesn't hold the first second, it never runs.
-#[derive(Debug, Clone, Copy)]
+#[derive(Clone, Copy)]
 pub struct Interval {
     first: i64,
     seconds: u16,

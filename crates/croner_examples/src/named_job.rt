@@ -4,7 +4,7 @@ use jiff::Zoned;
 use jiff::civil::DateTime;
 use jiff::tz::TimeZoneDatabase;
 
-#[derive(Debug, Drop)]
+#[derive(Drop)]
 pub struct Job {
     pub name: String,
     pub cron: Cron,

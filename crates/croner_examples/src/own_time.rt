@@ -8,7 +8,7 @@ use std::alloc::Global;
 use std::cmp::Ordering;
 
 /// A second on the clock of an office, which the answers of searches keep.
-#[derive(Debug, Clone, Copy)]
+#[derive(Clone, Copy)]
 pub struct OfficeTime<'t> {
     /// The office.
     pub office: &'static str,

@@ -7,7 +7,7 @@ use croner::{Cron, Recurring};
 use crontab_runs::CrontabJob;
 
 /// When a job runs.
-#[derive(Debug, Drop)]
+#[derive(Drop)]
 pub enum Plan {
     /// By a pattern.
     ByPattern(Cron),

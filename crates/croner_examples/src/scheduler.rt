@@ -9,7 +9,7 @@ use std::time::{Clock, Duration};
 const MOST_SECONDS: u64 = 60;
 
 /// What a job starts, and when it runs.
-#[derive(Debug, Drop)]
+#[derive(Drop)]
 pub struct Task<J> {
     pub name: String,
     pub when: J,

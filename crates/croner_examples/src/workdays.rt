@@ -7,7 +7,7 @@ use croner::time::CivilDate;
 use croner::{Clocked, Cron, CronDateTime, Direction, Recurring};
 
 /// A job that runs by a pattern, except on the dates of a list, by the clock of its zone.
-#[derive(Debug, Drop)]
+#[derive(Drop)]
 pub struct Workdays {
     pub cron: Cron,
     pub left_out: Vec<CivilDate>,

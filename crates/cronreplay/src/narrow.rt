@@ -12,15 +12,22 @@ use std::alloc::Global;
 
 /// The answer for each two bounds; if the question says `once`, each answer once.
 pub fn as_bounds_move(caller: Caller<'_>, question: &Value) -> Result<Value> {
-    let alloc = caller.alloc;
-    let job = Job::read(alloc, question)?;
-    let (how, once) = (How::read(question)?, switch(question, "once")?);
+    let job = Job::read(caller.alloc, question)?;
     let table = table_of(caller, member(question, "zone")?)?;
     let start = TableTime::new(&table, number_at(question, "start")?)?;
+    answers_between(caller.alloc, question, Subject::Job(&job), start)
+}
+
+fn answers_between(
+    alloc: Global,
+    question: &Value,
+    subject: Subject<'_>,
+    start: TableTime<'_>,
+) -> Result<Value> {
+    let (how, once) = (How::read(question)?, switch(question, "once")?);
     let mut answers = Vec::new(alloc);
     for held in list(question, "bounds")? {
-        let start = narrow_time(start, held)?;
-        let answer = answer_between(alloc, Subject::Job(&job), how, start)?;
+        let answer = answer_between(alloc, subject, how, narrow_time(start, held)?)?;
         if !once || !answers.contains(&answer) {
             answers.push(answer)?;
         }

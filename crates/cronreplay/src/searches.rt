@@ -37,27 +37,42 @@ impl Search {
         searched: Searched<'_>,
         start: &T,
     ) -> Result<Value> {
-        let mut last = None;
         let mut runs = Vec::new(caller.alloc);
+        let mut last = None;
         for _ in 0..self.count {
-            caller.begin();
-            let found = match &last {
-                None => searched.run_from(start, self.inclusive, self.direction),
-                Some(run) => searched.run_from(run, false, self.direction),
+            let next = match &last {
+                None => self.add_run(caller, searched, (start, self.inclusive), &mut runs)?,
+                Some(run) => self.add_run(caller, searched, (run, false), &mut runs)?,
             };
-            caller.end();
-            match found {
-                Ok(run) => {
-                    runs.push(run.shown(caller.alloc)?)?;
-                    last = Some(run.instant);
-                }
-                Err(refused) => {
-                    runs.push(shown::refusal_value(caller.alloc, &refused)?)?;
-                    break;
-                }
+            if next.is_none() {
+                break;
             }
+            last = next;
         }
         Ok(Value::Array(runs))
+    }
+
+    // Adds the run from a time on, which may be that time, to others. Where the search is refused, that is added, and nothing is given.
+    fn add_run<T: Moment>(
+        self,
+        caller: Caller<'_>,
+        searched: Searched<'_>,
+        (from, inclusive): (&T, bool),
+        runs: &mut Vec<Value>,
+    ) -> Result<Option<T>> {
+        caller.begin();
+        let found = searched.run_from(from, inclusive, self.direction);
+        caller.end();
+        match found {
+            Ok(run) => {
+                runs.push(run.shown(caller.alloc)?)?;
+                Ok(Some(run.instant))
+            }
+            Err(refused) => {
+                runs.push(shown::refusal_value(caller.alloc, &refused)?)?;
+                Ok(None)
+            }
+        }
     }
 }
 
