@@ -1,5 +1,5 @@
 -- Jobs that lack a start where the clock is put forward: one job more.
-use Rattle.std.proofs.Common.{◌≡◌, ◌<◌, ◌+◌, ℕ, List, [], ◌++◌, Option, length, get_or, take, ap, refl}
+use Rattle.std.proofs.Common.{◌≡◌, ◌<◌, ◌+◌, ℕ, List, [], ◌++◌, Option, length, get_or, take, ap}
 use Rattle.croner_base.specs.declared.time.table.TableTime.{TableTime}
 use Rattle.crontab.specs.Checked.{TakesInTurn}
 use Rattle.cronplan_forms.specs.declared.view.Dropped.{Dropped}

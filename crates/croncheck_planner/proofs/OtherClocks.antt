@@ -1,10 +1,10 @@
 -- The answers of a plan on a clock.
-use Rattle.std.proofs.Common.{◌≡◌, ◌⊎◌, inl, inr, arith, ℤ, List, Result, Ok, Err, subst, sym}
+use Rattle.std.proofs.Common.{◌≡◌, inl, inr, arith, ℤ, List, Result, Ok, Err, subst, sym}
 use Rattle.std.specs.Prelude.{IfOk}
 use Rattle.std.proofs.lemmas.Int.{ints, to_z-of_z}
 use Rattle.croner_base.specs.ZoneTable.{IsCalmWindow, IsNoTable}
 use Rattle.croner_base.specs.declared.errors.CronError.{CronError}
-use Rattle.croner_base.specs.declared.errors.CronError.TheVariants.{InvalidTime, OutOfMemory}
+use Rattle.croner_base.specs.declared.errors.CronError.TheVariants.{InvalidTime}
 use Rattle.jiff_tz.specs.declared.timezone.TimeZone.{TimeZone}
 use Rattle.croner_base.specs.declared.time.table.TableTime.{TableTime}
 use Rattle.cronplan.proofs.SpanSeconds.{span_at}

@@ -9,7 +9,6 @@ use Rattle.crontab.specs.declared.line.Entry.{Entry}
 use Rattle.crontab.specs.Checked.{LineRead, IsEntryOf}
 use Rattle.crontab.specs.Content.{IsOutcome}
 use Rattle.crontab.specs.Line.{Line}
-use Rattle.cronplan_page.specs.declared.about.Warnings.{Warnings}
 use Rattle.cronplan_page.specs.declared.markup.Line.{Line as PageLine}
 use Rattle.croncheck_findings.specs.declared.findings.Finding.{Finding}
 use Rattle.croncheck_output.specs.declared.severity.Severity.{Severity}

@@ -165,9 +165,9 @@ fn write_answers_in<W: Write>(
 ) -> io::Result<()>
     ensures { OnOk result (WritesOnZone (plain_zone zone.now) name.now jobs.now found.now questions (written_of W.contents output.old) (written_of W.contents output.new)) }
 {
-    match followed_in(alloc, zone, found.plan.span) {
-        Ok(Some(table)) => write_answers_on(alloc, &table, name, jobs, found, questions, output),
-        Ok(None) => write_unfollowed(alloc, name, output),
+    match clock_in(alloc, zone, found.plan.span) {
+        Ok(table) => write_answers_on(alloc, &table, name, jobs, found, questions, output),
+        Err(CronError::InvalidTime) => write_unfollowed(alloc, name, output),
         Err(_) => Err(io::Error::from(ErrorKind::OutOfMemory)),
     }
 }

@@ -1,9 +1,7 @@
-use Rattle.std.proofs.Common.{◌∙◌, List, ap, string_bytes, subst}
+use Rattle.std.proofs.Common.{◌∙◌, List, ap, string_bytes}
 use Rattle.cronplan_forms.specs.declared.job.Job.{Job}
-use Rattle.cronplan_forms.specs.declared.view.Dropped.{Dropped}
 use Rattle.cronplan_forms.specs.Questions.{IsAnswers}
 use Rattle.croncheck_report.specs.Settings.{start_of}
-use Rattle.croncheck_planner.specs.Dropped.{AreDropped}
 use Rattle.croncheck_planner.specs.PlanAnswers.{AreOwnAnswers, jobs_told}
 use Rattle.croncheck_planner.proofs.OtherClocks.{each_ok, same_dropped}
 use Rattle.croncheck_planner.proofs.plan.answers.own_answers.Goals as goal

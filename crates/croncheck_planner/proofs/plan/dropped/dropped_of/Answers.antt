@@ -1,4 +1,4 @@
-use Rattle.std.proofs.Common.{◌<◌, ◌≤◌, length, get_or, refl, rules}
+use Rattle.std.proofs.Common.{◌<◌, ◌≤◌, length, rules}
 use Rattle.croncheck_report.specs.Settings.{start_of}
 use Rattle.croncheck_planner.specs.Dropped.{LooksAt}
 use Rattle.croncheck_planner.proofs.DroppedJobs.{next_job}
@@ -8,8 +8,8 @@ use Rattle.croncheck_planner.proofs.plan.dropped.dropped_of.Goals as goal
 pub loop-place-preserved : goal.loop-place-preserved
 loop-place-preserved c =
     let within : c.loop-place.place < length c.args.jobs.now = search rules in
-    next_job (start_of c.args.settings.now) c.args.jobs.now c.loop-place.place c.loop-place.dropped.items c.push_dropped.new.dropped.items within c.loop-place.invariant
-    (λ d. search rules)
+    next_job (start_of c.args.settings.now) c.args.jobs.now c.loop-place.place c.loop-place.dropped.items c.push_dropped.new.dropped.items c.index-jobs-place.result within
+    c.index-jobs-place.is c.loop-place.invariant c.in_ok-push_dropped.ensures
 
 pub returns : goal.returns
 returns c =

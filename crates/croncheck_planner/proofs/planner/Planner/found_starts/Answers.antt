@@ -2,7 +2,6 @@ use Rattle.std.proofs.Common.{ℤ, List, Option, subst}
 use Rattle.croner_base.specs.TableZone.{table_zone}
 use Rattle.cronplan_jobs.specs.declared.listing.Schedule.{Schedule}
 use Rattle.croncheck_report.specs.Settings.{start_of, window_end}
-use Rattle.croncheck_planner.specs.declared.plan.Found.{Found}
 use Rattle.croncheck_planner.specs.Plan.{IsFound, answered_until}
 use Rattle.croncheck_output.proofs.OkResults.{if_value}
 use Rattle.croncheck_planner.proofs.planner.Planner.found_starts.Goals as goal

@@ -1,16 +1,13 @@
-use Rattle.std.proofs.Common.{◌≡◌, ◌∙◌, ℕ, List, Option, ap, subst, sym, refl}
+use Rattle.std.proofs.Common.{◌∙◌, ℕ, List, Option, ap, subst, sym, refl}
 use Rattle.std.specs.Prelude.{unwrap_or}
 use Rattle.std.specs.declared.alloc.Global.{Global}
 use Rattle.std.specs.declared.vec.Vec.{Vec}
 use Rattle.cronplan_jobs.specs.declared.listing.Schedule.{Schedule}
 use Rattle.croncheck_findings.specs.declared.findings.Finding.{Finding}
-use Rattle.croncheck_output.specs.Output.{written_of}
 use Rattle.croncheck_output.proofs.OkResults.{if_ok}
-use Rattle.cronplan_forms.specs.declared.asked.PlanAsked.{PlanAsked}
 use Rattle.croncheck_planner.specs.declared.planner.Planned.{Planned}
 use Rattle.croncheck_planner.specs.declared.planner.Planner.{Planner}
-use Rattle.croncheck_planner.specs.Planner.{Jobs, jobs_seen, above_at}
-use Rattle.croncheck_planner.specs.PagePlans.{brief_of}
+use Rattle.croncheck_planner.specs.Planner.{jobs_seen}
 use Rattle.croncheck_planner.proofs.PageLines.{kept_same, tells_same}
 use Rattle.croncheck_reading.specs.Progress.{Reports}
 use Rattle.croncheck_reading.specs.Stand.{line_taken, stand_of}
