@@ -8,9 +8,13 @@ use Rattle.croncheck_changes.specs.declared.changes.meetings.Met.{Met}
 use Rattle.croncheck_output.proofs.InTurn.{in_turn_next}
 use Rattle.croncheck_planner.specs.Dropped.{Looked, LooksAt, IsGapOf, dropped_by}
 
+-- so many jobs were looked at, and these of them lack a start
+abbrev looked : ℕ → List Dropped → Looked
+looked place dropped = record { place = place; dropped = dropped }
+
 pub next_job : (start : TableTime) (jobs : List Schedule) (k : ℕ) (old new : List Dropped) (job : Schedule) → k < length jobs → job ≡ get_or jobs k job
     → TakesInTurn (LooksAt start) (record { place = 0; dropped = [] }) (take k jobs) (record { place = k; dropped = old })
     → ((met : Option Met) × IsGapOf start job met × (new ≡ old ++ dropped_by k met))
     → TakesInTurn (LooksAt start) (record { place = 0; dropped = [] }) (take (k + 1) jobs) (record { place = k + 1; dropped = new })
 next_job start jobs k old new job within is before met =
-    in_turn_next (LooksAt start) _ _ _ jobs k job job within is before (met.0, met.1, ap (λ (dropped : List Dropped). (record { place = k + 1; dropped = dropped } : Looked)) met.2)
+    in_turn_next (LooksAt start) (looked 0 []) (looked k old) (looked (k + 1) new) jobs k job job within is before (met.0, met.1, ap (looked (k + 1)) met.2)

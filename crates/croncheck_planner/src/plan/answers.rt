@@ -82,19 +82,19 @@ fn write_own_answers<W: Write>(
     write_on_clock(terms.alloc, name, text.as_str(), output)
 }
 
-fn own_answers(
-    terms: &Terms<'_, '_>,
-    name: &str,
-    schedules: &[Schedule],
-    jobs: &[Planned],
-    found: &Found,
+fn own_answers<'v>(
+    terms: &Terms<'v, 'v>,
+    name: &'v str,
+    schedules: &'v [Schedule],
+    jobs: &'v [Planned],
+    found: &'v Found,
     questions: Questions,
 ) -> Result<String, AllocError>
     ensures { IfOk result (λ text. AreOwnAnswers terms.now.settings.now name.now schedules.now jobs.now found.now questions (string_bytes text)) }
 {
     let told = jobs_of(terms.alloc, jobs)?;
     let dropped = dropped_of(terms.alloc, terms.settings, schedules)?;
-    let view = own_view(terms, name, found, told.as_slice(), dropped.as_slice());
+    let view = own_view(terms, name, found, dropped.as_slice(), told.as_slice());
     answers_text(terms.alloc, view, questions)
 }
 
@@ -103,8 +103,8 @@ fn own_view<'v>(
     terms: &Terms<'v, 'v>,
     zone: &'v str,
     found: &'v Found,
-    jobs: &'v [Job<'v>],
     dropped: &'v [Dropped],
+    jobs: &'v [Job<'v>],
 ) -> View<'v>
     ensures zone { result.zone.now ≡ zone.now }
     ensures dropped { result.dropped.now ≡ dropped.now }

@@ -1,5 +1,6 @@
 //! The clock of a second zone beside that of a plan.
 ghost use Rattle.std.specs.Prelude.{◌≡◌, List, IfOk, option_copied, string_bytes};
+ghost use Rattle.croncheck_planner.specs.declared.planner.Planned.{Planned};
 ghost use Rattle.croncheck_planner.specs.PlanAnswers.{IsViewOf, jobs_planned, jobs_told};
 ghost use Rattle.croncheck_planner.specs.PlanFiles.{IsOtherClockIn, IsOtherTable};
 
@@ -35,16 +36,16 @@ pub(crate) fn view_beside<'v>(
     terms: &Terms<'v, 'v>,
     names: &'v ClockNames,
     found: &'v Found,
+    table: &'v Option<ClockTable>,
     jobs: &'v [Job<'v>],
-    table: Option<&'v ClockTable>,
 ) -> View<'v>
     ensures zone { result.zone.now ≡ string_bytes names.now.zone }
     ensures view { (planned : List Planned) → jobs_told jobs.now ≡ jobs_planned planned → IsViewOf terms.now.settings.now planned found.now result }
-    ensures other { IsOtherTable terms.now.shared.now.other_zone found.now.plan.span (option_copied table.entry)
+    ensures other { IsOtherTable terms.now.shared.now.other_zone found.now.plan.span table.now
         → IsOtherClockIn terms.now.shared.now.other_zone (string_bytes names.now.other) found.now.plan.span result.other }
 {
     View {
-        other: other_clock(terms.shared, names.other.as_str(), table),
+        other: other_clock(terms.shared, names.other.as_str(), table.as_ref()),
         ..view_of(terms, names.zone.as_str(), found, jobs)
     }
 }

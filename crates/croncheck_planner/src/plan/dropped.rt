@@ -1,5 +1,5 @@
 //! The jobs of a plan that lack a start where the clock is put forward.
-ghost use Rattle.std.specs.Prelude.{◌≡◌, ◌×◌, ◌++◌, Option, IfOk, OnOk};
+ghost use Rattle.std.specs.Prelude.{◌≡◌, ◌++◌, Option, IfOk, OnOk};
 ghost use Rattle.croncheck_changes.specs.declared.changes.meetings.Met.{Met};
 ghost use Rattle.croncheck_planner.specs.Dropped.{AreDropped, IsGapOf, dropped_by};
 ghost use Rattle.croncheck_report.specs.Settings.{start_of};
@@ -39,11 +39,7 @@ fn push_dropped(
     push_warned(dropped, place, gap_of(settings, job))
 }
 
-fn push_warned(
-    dropped: &mut Vec<Dropped>,
-    place: usize,
-    met: Option<Met>,
-) -> Result<(), AllocError>
+fn push_warned(dropped: &mut Vec<Dropped>, place: usize, met: Option<Met>) -> Result<(), AllocError>
     ensures { OnOk result (dropped.new.items ≡ dropped.old.items ++ dropped_by place met) }
 {
     match met {

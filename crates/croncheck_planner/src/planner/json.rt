@@ -19,7 +19,7 @@ impl Planner {
         let found = self.found_starts(terms)?;
         let told = jobs_of(terms.alloc, self.jobs.as_slice())?;
         let table = other_table(terms.alloc, terms.shared, found.plan.span)?;
-        let view = view_beside(terms, &self.names, &found, told.as_slice(), table.as_ref());
+        let view = view_beside(terms, &self.names, &found, &table, told.as_slice());
         let mut text = plan_json(terms.alloc, view)?;
         text.push('\n')?;
         Ok(text)

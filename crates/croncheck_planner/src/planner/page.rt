@@ -73,7 +73,7 @@ impl PagePlanner {
         let lines = lines_of(terms.alloc, self.found.as_slice())?;
         let warned = warnings_of(terms.alloc, lines.as_slice())?;
         let table = other_table(terms.alloc, terms.shared, found.plan.span)?;
-        let view = view_beside(terms, &planner.names, &found, told.as_slice(), table.as_ref());
+        let view = view_beside(terms, &planner.names, &found, &table, told.as_slice());
         let warnings = warned.as_slice();
         let about = About {
             title,

@@ -1,4 +1,4 @@
-use Rattle.std.proofs.Common.{◌∙◌, List, string_bytes, ap, rules}
+use Rattle.std.proofs.Common.{◌∙◌, List, string_bytes, ap}
 use Rattle.cronplan_forms.specs.declared.job.Job.{Job}
 use Rattle.croncheck_planner.specs.declared.planner.Planned.{Planned}
 use Rattle.croncheck_planner.specs.PlanAnswers.{jobs_planned, jobs_told}
@@ -14,7 +14,7 @@ returns c = record {
   is_view = c.view_beside-view.ensures.view c.args.self.now.jobs.items
       (ap (λ (jobs : List Job). jobs_told jobs) c.as_slice-2.ensures.value ∙ c.in_ok-told.ensures ∙ ap (λ (jobs : List Planned). jobs_planned jobs) c.as_slice.ensures.value);
   zone_is = c.view_beside-view.ensures.zone;
-  other_is = c.view_beside-view.ensures.other (search rules);
+  other_is = c.view_beside-view.ensures.other c.in_ok-table.ensures;
   is_json = c.in_ok-text.ensures;
   text_is = c.in_ok-push.ensures.bytes;
 }

@@ -1,4 +1,4 @@
-use Rattle.std.proofs.Common.{◌∙◌, List, ap, map, refl, rules}
+use Rattle.std.proofs.Common.{◌∙◌, List, ap, map, refl}
 use Rattle.std.specs.declared.alloc.Global.{Global}
 use Rattle.std.specs.declared.vec.Vec.{Vec}
 use Rattle.cronplan_forms.specs.declared.job.Job.{Job}
@@ -19,7 +19,7 @@ returns c = record {
   is_view = c.view_beside-view.ensures.view c.args.self.now.planner.jobs.items
       (ap (λ (jobs : List Job). jobs_told jobs) c.as_slice-4.ensures.value ∙ c.in_ok-told.ensures ∙ ap (λ (jobs : List Planned). jobs_planned jobs) c.as_slice.ensures.value);
   zone_is = c.view_beside-view.ensures.zone;
-  other_is = c.view_beside-view.ensures.other (search rules);
+  other_is = c.view_beside-view.ensures.other c.in_ok-table.ensures;
   title_is = refl;
   ignored_are = refl;
   warnings_are = ap (λ (warnings : List Warnings). map (λ (w : Warnings). lines_told w.lines.now) warnings) c.as_slice-warnings.ensures.value ∙ c.in_ok-warned.ensures
