@@ -155,6 +155,27 @@ def starts_of(job, zone, first, end):
     return starts
 
 
+DROPPED = {}
+
+
+def change_that_drops(job, zone, start):
+    """The second of the first change after a start that skips a second of a job, where that is told: cron doesn't start it there, and it
+    isn't due within three hours beside it. Nothing of a job with all hours, or of a change of half a day or more."""
+    key = job.times, zone, start
+    if key not in DROPPED:
+        DROPPED[key] = first_that_drops(crontab_model.Times(job.cron, {}, False), zone, start)
+    return DROPPED[key]
+
+
+def first_that_drops(times, zone, start):
+    if len(times.hours) == 24:
+        return None
+    for instant, before, after in crontab_model.Clock(zone, start, start + crontab_model.WATCHED).changes():
+        if before < after and start < instant <= start + crontab_model.WATCHED and times.second_in(before, after) is not None:
+            return instant if crontab_model.warnings_of_change(times, "gap", instant, before, after, times.second_in(before, after)) else None
+    return None
+
+
 # ---- plans
 
 
@@ -165,6 +186,8 @@ class Plan:
         self.jobs, self.zone, self.first, self.end = jobs, zone, first, end
         self.clock = crontab_model.Clock(zone, first - 1, end)
         self.starts, self.left_out = [], []
+        self.beside = None
+        self.is_own = True
         for place, job in enumerate(jobs):
             found = starts_of(job, zone, first, end)
             if most_a_day is not None and self.most_on_a_date(found) > most_a_day:
@@ -182,7 +205,19 @@ class Plan:
         """The same starts on the clock of another zone."""
         other = copy.copy(self)
         other.zone, other.clock = zone, crontab_model.Clock(zone, self.first - 1, self.end)
+        other.is_own = False
         return other
+
+    def beside_clock(self, zone):
+        """The same plan with the clock of another zone beside its own."""
+        other = copy.copy(self)
+        other.beside = self.on_clock(zone)
+        return other
+
+    def dropped_at(self, second):
+        """The places of the jobs that lack a start at a change of the clock, which is put forward there: on the clock of their own zone alone."""
+        start = self.first - 1
+        return [place for place, job in enumerate(self.jobs) if self.is_own and change_that_drops(job, self.zone, start) == second]
 
     def most_on_a_date(self, found):
         counts = {}

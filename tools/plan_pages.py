@@ -70,11 +70,15 @@ def judge(tally, what, case, plan, page):
 
 def judge_top(tally, what, case, plan, sections):
     jobs, starts = plan_texts.many(len(plan.jobs), "job"), plan_texts.many(plan.count())
-    span = f"{plan_texts.time_text(plan, plan.first)} to {plan_texts.time_text(plan, plan.end)}, on the clock of {case.zone}"
+    span = f"{plan_texts.both_text(plan, plan.first)} to {plan_texts.both_text(plan, plan.end)}, on the clock of {case.zone}{beside_words(plan)}"
     tally.take(f"{what}: first lines", [plain(it.text()) for it in sections.top if it.name == "p"][:1], [f"{span}: {jobs}, with {starts} shown."])
     wanted = [f"{shown(plan.jobs[place].title)} {plan_texts.many(count)}" for place, count in plan.left_out]
     tally.take(f"{what}: left out", sections.lines("Not shown, since they start too often"), list(map(plain, wanted)))
     tally.take(f"{what}: ignored", sections.lines("Cron ignores"), ignored_lines(case))
+
+
+def beside_words(plan):
+    return f", and after = on that of {plan.beside.zone}" if plan.beside else ""
 
 
 def ignored_lines(case):
@@ -95,7 +99,7 @@ def ignored_lines(case):
 def judge_quiet(tally, what, case, plan, sections):
     wanted = []
     for begin, end, length, is_open in plan.windows(1)[:5]:
-        told = f"{plan_texts.time_text(plan, begin)} to {plan_texts.time_text(plan, end)} {plan_texts.length_text(length)}"
+        told = f"{plan_texts.both_text(plan, begin)} to {plan_texts.both_text(plan, end)} {plan_texts.length_text(length)}"
         wanted.append(told + (", or longer" if is_open else ""))
     none = ["None of the jobs shown starts in between.", "There is none."]
     tally.take(f"{what}: quiet windows", sections.lines("Longest quiet windows"), wanted or none)
@@ -105,7 +109,7 @@ def judge_fullest(tally, what, case, plan, sections):
     started, wanted = dict(plan.moments()), []
     for second, count in plan.fullest(5):
         jobs = ", ".join(shown(plan.jobs[place].title) + times_after(times) for place, times in started[second])
-        wanted.append(plain(f"{plan_texts.time_text(plan, second)} {plan_texts.many(count)}, {jobs}"))
+        wanted.append(plain(f"{plan_texts.both_text(plan, second)} {plan_texts.many(count)}, {jobs}"))
     tally.take(f"{what}: fullest moments", sections.lines("Fullest moments"), wanted or ["None of the jobs shown starts."])
 
 
@@ -161,7 +165,7 @@ def marks_of(plan, place):
     starts = plan.starts_of_job(place)
     if sum(count for _, count in starts) > MOST_MARKS:
         return found + [("b", 0, plan_texts.many(sum(count for _, count in starts)))]
-    return found + [("m", at(second), plan_texts.time_text(plan, second) + times_after(count)) for second, count in starts]
+    return found + [("m", at(second), plan_texts.both_text(plan, second) + times_after(count)) for second, count in starts]
 
 
 def judge_days(tally, what, case, plan, sections):
@@ -171,7 +175,7 @@ def judge_days(tally, what, case, plan, sections):
     for number in plan.dates():
         starts = [it for it in plan.starts if plan.wall(it[0]) // DAY == number]
         name = f"{plan_texts.weekday(number)} {plan_texts.date_text(number)}, {plan_texts.many(sum(count for _, _, count in starts))}"
-        lines = [f"{plan_texts.time_text(plan, second)} {shown(plan.jobs[place].title)}{times_after(count)}" for second, place, count in starts]
+        lines = [f"{plan_texts.both_text(plan, second)} {shown(plan.jobs[place].title)}{times_after(count)}" for second, place, count in starts]
         wanted.append([name, list(map(plain, lines))])
     tally.take(f"{what}: days", days, wanted)
 
@@ -185,7 +189,7 @@ def judge_jobs(tally, what, case, plan, sections):
     lines, _ = case.described()
     for place, job in enumerate(plan.jobs):
         starts = plan.starts_of_job(place)
-        following = [plan_texts.time_text(plan, second) + times_after(count) for second, count in starts[:3]] or ["Nothing starts."]
+        following = [plan_texts.both_text(plan, second) + times_after(count) for second, count in starts[:3]] or ["Nothing starts."]
         warned = [it for it in lines[job.file, job.line]["findings"] if it["severity"] == "warning"]
         warned = [DATES.sub("", plain(f"{it['name']} {it['text']}")) for it in warned]
         count = left_out.get(place, sum(count for _, count in starts))

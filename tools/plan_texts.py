@@ -44,6 +44,12 @@ def time_text(plan, second):
     return f"{weekday(wall // DAY)} {date_text(wall // DAY)} {clock_text(wall)}:{wall % 60:02} {offset_text(plan.ahead(second))}"
 
 
+def both_text(plan, second):
+    """The same, and after it what the clock of a second zone shows, where one is shown."""
+    beside = f" = {time_text(plan.beside, second).partition(' ')[2]}" if plan.beside else ""
+    return time_text(plan, second) + beside
+
+
 def date_name(number):
     """A date without its year, as `Sun 28 Mar`."""
     _, month, day = model.date_at(number)
@@ -169,7 +175,8 @@ def week_lines(plan, signs):
     found.append("  ".join(f"{sign}={least}" for sign, least in zip(signs, STEPS)) + "  starts in an hour, or more")
     all_hours = [count for date in plan.dates() for count in plan.hours_of_date(date)]
     meanings = {SKIPPED: "x: the clock skips the hour", OUTSIDE: "-: not in the plan"}
-    found += [text for sign, text in meanings.items() if sign in all_hours] + [change_line(*change) for change in plan.changes()]
+    found += [text for sign, text in meanings.items() if sign in all_hours]
+    found += [line for change in plan.changes() for line in [change_line(*change)] + dropped_lines(plan, change[0])]
     longest = window_lines(plan, HOUR)[:5]
     return found + ([f"longest windows in which {silence(plan)}:"] + longest if longest else [])
 
@@ -178,6 +185,12 @@ def change_line(_, before, after, count):
     first, last = [f"{date_name(wall // DAY)} {clock_text(wall)}" for wall in sorted((before, after))]
     told = f"skips {first} to {last}" if before < after else f"shows {first} to {last} twice"
     return f"the clock {told}; {many(count)} then"
+
+
+def dropped_lines(plan, second):
+    """The jobs that lack a start where the clock is put forward."""
+    jobs = [plan.jobs[place] for place in plan.dropped_at(second)]
+    return [f"  not made up for: {job.label} {excerpt(shown(job.title))}" for job in jobs]
 
 
 # ---- months

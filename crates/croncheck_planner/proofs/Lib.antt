@@ -1,3 +1,4 @@
+mod DroppedJobs
 mod ExamplesPlan
 mod MomentStarts
 mod OtherClocks

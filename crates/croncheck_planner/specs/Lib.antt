@@ -1,3 +1,4 @@
+pub mod Dropped
 pub mod PagePlans
 pub mod Plan
 pub mod PlanAnswers

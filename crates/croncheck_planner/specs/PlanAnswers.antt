@@ -1,5 +1,5 @@
 -- What a plan answers, as it is written. Source: docs/CRONTAB.md ("A plan").
-use Rattle.std.specs.Prelude.{◌≡◌, ◌==◌, ◌⊎◌, ℕ, ℤ, pos, ◌-ℤ◌, ◌≤ℤ◌, List, ◌++◌, codes, length, map, Option, Some, None, string_bytes}
+use Rattle.std.specs.Prelude.{◌≡◌, ◌==◌, ◌⊎◌, ℕ, ℤ, pos, ◌-ℤ◌, ◌≤ℤ◌, List, [], ◌++◌, codes, length, map, Option, Some, None, string_bytes}
 use Rattle.jiff.specs.declared.tz.timezone.TimeZone.{TimeZone}
 use Rattle.jiff_tz.specs.declared.timezone.TimeZone.{TimeZone as PlainZone}
 use Rattle.jiff.specs.ZoneView.{plain_zone}
@@ -16,6 +16,7 @@ use Rattle.cronplan_forms.specs.declared.job.Job.{Job}
 use Rattle.cronplan_forms.specs.declared.view.View.{View}
 use Rattle.cronplan_forms.specs.Answers.{left_out_text}
 use Rattle.cronplan_forms.specs.Questions.{IsAnswers}
+use Rattle.cronplan_jobs.specs.declared.listing.Schedule.{Schedule}
 use Rattle.croncheck_planner.specs.declared.plan.Found.{Found}
 use Rattle.croncheck_planner.specs.declared.planner.ClockNames.{ClockNames}
 use Rattle.croncheck_planner.specs.declared.planner.Planned.{Planned}
@@ -23,7 +24,8 @@ use Rattle.croncheck_report.specs.declared.settings.Settings.{Settings}
 use Rattle.croncheck_report.specs.declared.shared.Shared.{Shared}
 use Rattle.croncheck_output.specs.Output.{Written, WritesApart}
 use Rattle.croncheck_planner.specs.Plan.{is_cut}
-use Rattle.croncheck_planner.specs.PlanList.{head_text}
+use Rattle.croncheck_planner.specs.Dropped.{AreDropped}
+use Rattle.croncheck_planner.specs.PlanList.{head_text, whose_text}
 use Rattle.croncheck_report.specs.Settings.{start_of}
 
 -- what the forms of a plan are told of a job: which of equal ones it is they find themselves
@@ -80,11 +82,12 @@ pub record IsViewOf (s : Settings) (jobs : List Planned) (found : Found) (v : Vi
 abbrev pub IsLeftOut : Settings → List Planned → Found → List ℕ → Type 0
 IsLeftOut s jobs found text = (view : View) × IsViewOf s jobs found view × (text ≡ left_out_text view)
 
--- the answers on the clock of the zone that is shown, which is called so
-pub record AreOwnAnswers (s : Settings) (name : List ℕ) (jobs : List Planned) (found : Found) (asked : Questions) (text : List ℕ) : Type 0 where
+-- the answers on the clock of the zone that is shown, which is called so, with the jobs that lack a start where it is put forward
+pub record AreOwnAnswers (s : Settings) (name : List ℕ) (schedules : List Schedule) (jobs : List Planned) (found : Found) (asked : Questions) (text : List ℕ) : Type 0 where
   pub view : View
   pub is_view : IsViewOf s jobs found view
   pub zone_is : view.zone.now ≡ name
+  pub dropped_are : AreDropped (start_of s) schedules view.dropped.now
   pub answers : IsAnswers view asked text
 
 -- what was found of jobs, with this plan in place of its own: on the clock of a table, whose zone is called so
@@ -95,6 +98,7 @@ pub record IsOtherView (table : ClockTable) (name : List ℕ) (jobs : List Job) 
   pub jobs_are : v.jobs.now ≡ jobs
   pub frequent_are : v.frequent.now ≡ found.frequent.items
   pub cut_is : v.is_cut ≡ is_cut found
+  pub dropped_are : v.dropped.now ≡ []
 
 -- the answers on the clock of a table, whose zone is called so
 pub record AreAnswersOn (table : ClockTable) (name : List ℕ) (jobs : List Planned) (found : Found) (asked : Questions) (text : List ℕ) : Type 0 where
@@ -125,9 +129,9 @@ pub record WritesOnClock (name text : List ℕ) (old new : Written) : Type 0 whe
   pub written : WritesApart text begun new
 
 -- the answers were written on the clock of the zone that is shown
-pub record WritesOwnAnswers (s : Settings) (name : List ℕ) (jobs : List Planned) (found : Found) (asked : Questions) (old new : Written) : Type 0 where
+pub record WritesOwnAnswers (s : Settings) (name : List ℕ) (schedules : List Schedule) (jobs : List Planned) (found : Found) (asked : Questions) (old new : Written) : Type 0 where
   pub text : List ℕ
-  pub answers : AreOwnAnswers s name jobs found asked text
+  pub answers : AreOwnAnswers s name schedules jobs found asked text
   pub written : WritesOnClock name text old new
 
 -- the same on the clock of a table
@@ -144,6 +148,11 @@ IsClockIn z span table = (i : ℤ) → (span.first -ℤ pos 1) ≤ℤ i → i �
 abbrev pub IsNoClockIn : PlainZone → Span → CronError → Type 0
 IsNoClockIn z span e = IsNoTable z (span.first -ℤ pos 1) span.end e
 
+-- the clock of a zone in a span; or none, where it isn't calm there
+abbrev pub IsFollowedIn : PlainZone → Span → Option ClockTable → Type 0
+IsFollowedIn z span None = ¬ (IsCalmWindow z (span.first -ℤ pos 1) span.end)
+IsFollowedIn z span (Some table) = IsClockIn z span table
+
 -- the answers were written on the clock of a zone, or that it isn't followed there
 abbrev pub WritesOnZone : PlainZone → List ℕ → List Planned → Found → Questions → Written → Written → Type 0
 WritesOnZone z name jobs found asked old new =
@@ -159,11 +168,11 @@ abbrev pub WritesOtherAnswers : Shared → List ℕ → List Planned → Found �
 WritesOtherAnswers shared name jobs found asked old new = WritesOtherOf shared.other_zone name jobs found asked old new
 
 -- the answers were written: in front of them whose starts these are, where there are any, and what is left out; below them those on the other clock
-pub record WritesAnswers (s : Settings) (shared : Shared) (names : ClockNames) (front : List ℕ) (jobs : List Planned) (found : Found) (asked : Questions) (old new : Written) : Type 0 where
+pub record WritesAnswers (s : Settings) (shared : Shared) (names : ClockNames) (schedules : List Schedule) (jobs : List Planned) (found : Found) (asked : Questions) (old new : Written) : Type 0 where
   pub begun : Written
   pub told : Written
   pub answered : Written
-  pub head : WritesApart (head_text front (length found.plan.starts.items == 0)) old begun
+  pub head : WritesApart (head_text (whose_text schedules) (length found.plan.starts.items == 0)) old begun
   pub left_out : WritesLeftOut s jobs found begun told
-  pub own : WritesOwnAnswers s (string_bytes names.zone) jobs found asked told answered
+  pub own : WritesOwnAnswers s (string_bytes names.zone) schedules jobs found asked told answered
   pub other : WritesOtherAnswers shared (string_bytes names.other) jobs found asked answered new

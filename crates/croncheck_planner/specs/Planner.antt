@@ -239,7 +239,7 @@ IsFoundBy s p found =
 pub record WritesAnswered (s : Settings) (shared : Shared) (p : Planner) (old new : Written) : Type 0 where
   pub found : Found
   pub found_is : IsFoundBy s p found
-  pub written : WritesAnswers s shared p.names (whose_text p.schedules.items) p.jobs.items found p.asked.questions old new
+  pub written : WritesAnswers s shared p.names p.schedules.items p.jobs.items found p.asked.questions old new
 
 -- the plan of a planner's jobs was written: as a list where nothing is asked
 abbrev pub WritesPlanAs : Bool → Settings → Shared → Planner → Written → Written → Type 0

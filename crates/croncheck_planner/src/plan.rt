@@ -5,6 +5,8 @@ ghost use Rattle.croner_base.specs.TableZone.{table_zone};
 ghost use Rattle.croncheck_planner.specs.Plan.{first_after, end_after, IsSpanAfter, IsFound, IsFirst, IsListed, whole_end, end_up_to, is_cut, is_new, left_after, starts_within, is_more, is_enough, starts_listed, ending_of, answered_until};
 
 pub(crate) mod answers;
+pub(crate) mod beside;
+pub(crate) mod dropped;
 pub(crate) mod list;
 pub(crate) mod title;
 

@@ -283,11 +283,10 @@ impl Planner {
         let Ok(found) = self.found_starts(terms) else {
             return Err(io::Error::from(ErrorKind::OutOfMemory));
         };
-        let whose = whose_text(self.schedules.as_slice());
         write_answers(
             terms,
             &self.names,
-            whose,
+            self.schedules.as_slice(),
             self.jobs.as_slice(),
             &found,
             self.asked.questions,

@@ -255,7 +255,7 @@ fn next_wake_up<T: Clocked>(caller: Caller<'_>, scheduler: &Scheduler<FlakyJob, 
 pub fn standings<T: Clocked>(alloc: Global, scheduler: &Scheduler<FlakyJob, T>) -> Result<Value> {
     let mut standings = Vec::new(alloc);
     for (id, waiting) in scheduler.iter() {
-        standings.push(standing(alloc, *id, waiting)?)?;
+        standings.push(standing(alloc, id, waiting)?)?;
     }
     Ok(Value::Array(standings))
 }

@@ -1,18 +1,16 @@
 -- What a scheduler holds stays in order when a job steps to its next run, is added and is removed.
-use Rattle.std.proofs.Common.{◌≡◌, refl, sym, ap, ◌∙◌, subst, arith, ℕ, ◌+◌, ◌<◌, ◌≤◌, ℤ, ◌<ℤ◌, Bool, true, false, cond, Option, Some, None, IfSome, is_some, option_map}
+use Rattle.std.proofs.Common.{◌≡◌, refl, sym, ap, ◌∙◌, subst, arith, ℕ, ◌+◌, ℤ, ◌<ℤ◌, Bool, true, false, cond, Option, Some, None, IfSome, is_some, option_map}
 use Rattle.std.proofs.Math.Logic.{∥∥₁_elim, ∥∥₁_map}
 use Rattle.std.proofs.Props.{props}
 use Rattle.std.proofs.lemmas.Bool.{false≢true}
 use mathlib.Core.Sum.{⊎_set}
-use Rattle.std.proofs.lemmas.Cmp.{ranked}
 use Rattle.std.proofs.lemmas.Grind.{merely}
 use Rattle.std.proofs.lemmas.Int.{ints}
 use Rattle.std.specs.BTreeMap.{is_at}
 use Rattle.std.specs.Option.{IsSomeAnd}
-use Rattle.std.specs.Ordering.{MatchOrdering, nat_cmp, int_eq, is_eq}
-use Rattle.std.specs.declared.cmp.Ordering.{Ordering}
-use Rattle.std.specs.declared.cmp.Ordering.TheVariants.{Less, Equal, Greater}
+use Rattle.std.specs.Ordering.{nat_cmp, int_eq}
 use Rattle.croner_base.specs.Zone.{Zone, Moment}
+use Rattle.croner_scheduler.proofs.Ids.{own_id, other_id, each}
 use Rattle.croner_scheduler.proofs.Nearest.{same_second}
 use Rattle.croner_scheduler.proofs.TurnOrder.{is_turn_here, is_turn_apart}
 use Rattle.croner_scheduler.specs.declared.waiting.Next.{Next}
@@ -23,39 +21,6 @@ use Rattle.croner_scheduler.specs.Calls.{StandsAt, TellsStop, MovesTo, IsAdded, 
 use Rattle.croner_scheduler.specs.Private.Turns.{is_turn, is_next_turn}
 use Rattle.croner_scheduler.specs.Kept.{standing_of, stop_of, StopsAt, FitsNext, Fits}
 use Rattle.croner_scheduler.specs.Private.Steps.{FitsAfter, jobs_with, job_after_run, position_after, is_next_at, is_awaited_at}
-
--- ---- ids
-
-pub same_id : (x y : ℕ) → is_at (nat_cmp x) y ≡ true → x ≡ y
-same_id x y e = by (nat_cmp x y) (ranked x y _ refl) e
-  where
-    by : (r : Ordering) → MatchOrdering r (x < y) (x ≡ y) (y < x) → is_eq r ≡ true → x ≡ y
-    by Less lt e = absurd (false≢true e)
-    by Equal same e = same
-    by Greater lt e = absurd (false≢true e)
-
-pub own_id : (x : ℕ) → is_at (nat_cmp x) x ≡ true
-own_id x = by (nat_cmp x x) (ranked x x _ refl)
-  where
-    by : (r : Ordering) → MatchOrdering r (x < x) (x ≡ x) (x < x) → is_eq r ≡ true
-    by Less lt = absurd (omega (arith, lt))
-    by Equal same = refl
-    by Greater lt = absurd (omega (arith, lt))
-
-pub other_id : (x y : ℕ) → ¬ (y ≡ x) → is_at (nat_cmp x) y ≡ false
-other_id x y apart = by (is_at (nat_cmp x) y) refl
-  where
-    by : (b : Bool) → is_at (nat_cmp x) y ≡ b → b ≡ false
-    by true e = absurd (apart (sym (same_id x y e)))
-    by false e = refl
-
--- what holds of one id and of each other holds of all
-pub each : (id : ℕ) (P : ℕ → Type 0) → P id → ((k : ℕ) → is_at (nat_cmp id) k ≡ false → P k) → (k : ℕ) → P k
-each id P here apart k = by (is_at (nat_cmp id) k) refl
-  where
-    by : (b : Bool) → is_at (nat_cmp id) k ≡ b → P k
-    by true e = subst P (same_id id k e) here
-    by false e = apart k e
 
 module _ {T : Type 0} (moment : T → Moment) where
   pub turn_here : (n : Next T) (id : ℕ) (s : ℤ) → is_next_turn moment n id s id ≡ is_next_at moment s n
@@ -148,14 +113,6 @@ module _ {J T : Type 0} (runs : J → Zone → ℤ → Type 0) (moment : T → M
             left s k ∙ ap (λ b. cond b false (has1 s k)) (is_turn_apart second s id k e)
             ∙ added s k ∙ ap (λ b. cond b true (has s k)) (turn_apart moment next id s k e)
             ∙ listed s k ∙ sym (ap (is_awaited_at moment s) (stepped_apart k e))
-
-    pub stepped_unused : (next_id : ℕ) → ((k : ℕ) → next_id ≤ k → is_some (jobs k) ≡ false) → (k : ℕ) → next_id ≤ k → is_some (jobs' k) ≡ false
-    stepped_unused next_id unused = each id (λ k. next_id ≤ k → is_some (jobs' k) ≡ false)
-        (λ le. ap is_some stepped_own ∙ still (jobs id) ∙ unused id le) (λ k e le. ap is_some (stepped_apart k e) ∙ unused k le)
-      where
-        still : (o : Option (Waiting J T)) → is_some (option_map (job_after_run next) o) ≡ is_some o
-        still None = refl
-        still (Some w) = refl
 
     pub stepped_fits : (k : ℕ) → ∥ IfSome (jobs' k) (Fits runs moment) ∥₁
     stepped_fits = each id (λ k. ∥ IfSome (jobs' k) (Fits runs moment) ∥₁)
@@ -255,10 +212,6 @@ module _ {J T : Type 0} (runs : J → Zone → ℤ → Type 0) (moment : T → M
         (λ k e. added s k ∙ ap (λ b. cond b true (has s k)) (turn_apart moment w.next id s k e)
         ∙ listed s k ∙ sym (ap (is_awaited_at moment s) (put_apart k e)))
 
-    pub added_unused : ((k : ℕ) → id ≤ k → is_some (jobs k) ≡ false) → (k : ℕ) → id + 1 ≤ k → is_some (jobs' k) ≡ false
-    added_unused unused = each id (λ k. id + 1 ≤ k → is_some (jobs' k) ≡ false)
-        (λ le. absurd (omega (arith, le))) (λ k e le. ap is_some (put_apart k e) ∙ unused k (omega (arith, le)))
-
     pub added_fits : (k : ℕ) → ∥ IfSome (jobs' k) (Fits runs moment) ∥₁
     added_fits = each id (λ k. ∥ IfSome (jobs' k) (Fits runs moment) ∥₁)
         (subst (λ o. ∥ IfSome o (Fits runs moment) ∥₁) (sym put_own) (merely fit))
@@ -322,10 +275,6 @@ module _ {J T : Type 0} (runs : J → Zone → ℤ → Type 0) (moment : T → M
         ∙ gone (is_next_at moment s w.next) ∙ sym (ap (is_awaited_at moment s) taken_own))
         (λ k e. left s k ∙ ap (λ b. cond b false (has s k)) (turn_apart moment w.next id s k e)
         ∙ listed s k ∙ sym (ap (is_awaited_at moment s) (taken_apart k e)))
-
-    pub removed_unused : (next_id : ℕ) → ((k : ℕ) → next_id ≤ k → is_some (jobs k) ≡ false) → (k : ℕ) → next_id ≤ k → is_some (jobs' k) ≡ false
-    removed_unused next_id unused = each id (λ k. next_id ≤ k → is_some (jobs' k) ≡ false)
-        (λ le. ap is_some taken_own) (λ k e le. ap is_some (taken_apart k e) ∙ unused k le)
 
     pub removed_fits : (k : ℕ) → ∥ IfSome (jobs' k) (Fits runs moment) ∥₁
     removed_fits = each id (λ k. ∥ IfSome (jobs' k) (Fits runs moment) ∥₁)

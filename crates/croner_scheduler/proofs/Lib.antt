@@ -1,3 +1,6 @@
+pub mod Ids
+pub mod Places
+pub mod TakenOut
 pub mod TurnOrder
 pub mod NextRuns
 pub mod LastRuns
@@ -11,3 +14,4 @@ pub mod Lives
 pub mod ExamplesHistory
 pub mod ExamplesLatest
 pub mod ExamplesStops
+pub mod ExamplesPlaces

@@ -1,13 +1,10 @@
 -- What calls give of an id over a replace, and from the add of its job to its removal: lists of calls are cut where these stand.
-use Rattle.std.proofs.Common.{◌≡◌, refl, sym, ap, ◌∙◌, arith, ◌≤◌, ℕ, ℤ, false, List, [], ◌∷◌, ◌++◌, Option, None, Some, is_some, option_map}
-use Rattle.std.proofs.lemmas.Bool.{false≢true}
+use Rattle.std.proofs.Common.{◌≡◌, refl, sym, ap, ◌∙◌, arith, ◌≤◌, ℕ, ℤ, List, [], ◌∷◌, ◌++◌, None, Some}
 use Rattle.std.proofs.lemmas.List.{append_assoc, append-nil}
-use Rattle.croner_base.specs.Zone.{Zone, Moment}
+use Rattle.croner_base.specs.Zone.{Zone}
 use Rattle.croner_scheduler.proofs.History.{some_of, gives_in_turn, grow, stays_fresh, stays_gone}
-use Rattle.croner_scheduler.specs.declared.waiting.Waiting.{Waiting}
 use Rattle.croner_scheduler.specs.Calls.{StandsAt}
 use Rattle.croner_scheduler.specs.History.{Call, Add, Replace, Remove, MakesInTurn, given, given_by}
-use Rattle.croner_scheduler.specs.Kept.{standing_of}
 use Rattle.croner_scheduler.specs.Lives.{GivesAcross, GivesOfOneLife}
 use Rattle.croner_scheduler.specs.Standing.{Held}
 
@@ -15,15 +12,6 @@ given_append : {J : Type 0} (k : ℕ) (before rest : List (Call J)) → given k 
 given_append k [] rest = refl
 given_append k (call ∷ calls) rest =
     ap (λ items. given_by k call ++ items) (given_append k calls rest) ∙ sym (append_assoc (given_by k call) (given k calls) (given k rest))
-
--- no job stands under an id from the next one on
-pub none_ahead : {J T : Type 0} (moment : T → Moment) (jobs : ℕ → Option (Waiting J T)) (next_id : ℕ) → ((id : ℕ) → next_id ≤ id → is_some (jobs id) ≡ false)
-    → (id : ℕ) → next_id ≤ id → option_map (standing_of moment) (jobs id) ≡ None
-none_ahead {J} {T} moment jobs next_id unused id le = none (jobs id) (unused id le)
-  where
-    none : (o : Option (Waiting J T)) → is_some o ≡ false → option_map (standing_of moment) o ≡ None
-    none None e = refl
-    none (Some w) e = absurd (false≢true (sym e))
 
 module _ {J : Type 0} (runs : J → Zone → ℤ → Type 0) where
   -- what is held where a list of calls is cut

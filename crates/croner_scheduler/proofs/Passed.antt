@@ -1,5 +1,5 @@
 -- What a scheduler holds stays in order when a job is put at another position before its next run.
-use Rattle.std.proofs.Common.{rules, ◌≡◌, refl, sym, ap, ◌∙◌, subst, arith, ℕ, ◌≤◌, ℤ, ◌<ℤ◌, Bool, true, false, cond, Option, None, Some, IfSome, is_some, option_map}
+use Rattle.std.proofs.Common.{rules, ◌≡◌, refl, sym, ap, ◌∙◌, subst, arith, ℕ, ℤ, ◌<ℤ◌, Bool, true, false, cond, Option, None, Some, IfSome, option_map}
 use Rattle.std.proofs.Math.Logic.{∥∥₁_map}
 use Rattle.std.proofs.lemmas.Bool.{false≢true}
 use Rattle.std.proofs.lemmas.Int.{ints}
@@ -8,7 +8,7 @@ use Rattle.std.specs.Option.{IsSomeAnd}
 use Rattle.std.specs.Ordering.{nat_cmp}
 use Rattle.croner_base.specs.Calm.{IsCalm}
 use Rattle.croner_base.specs.Zone.{Zone, Moment}
-use Rattle.croner_scheduler.proofs.Changes.{each, own_id, other_id}
+use Rattle.croner_scheduler.proofs.Ids.{own_id, other_id, each}
 use Rattle.croner_scheduler.specs.declared.waiting.Next.{Next}
 use Rattle.croner_scheduler.specs.declared.waiting.Next.TheVariants.{Run, Over, Stopped}
 use Rattle.croner_scheduler.specs.declared.waiting.Waiting.{Waiting}
@@ -55,14 +55,6 @@ module _ {J T : Type 0} (runs : J → Zone → ℤ → Type 0) (moment : T → M
       (λ k e. listed s k ∙ sym (ap (is_awaited_at moment s) (passed_apart k e)))
     where
       still : (o : Option (Waiting J T)) → is_awaited_at moment s o ≡ is_awaited_at moment s (option_map (job_standing_at position) o)
-      still None = refl
-      still (Some w) = refl
-
-  pub passed_unused : (next_id : ℕ) → ((k : ℕ) → next_id ≤ k → is_some (jobs k) ≡ false) → (k : ℕ) → next_id ≤ k → is_some (jobs' k) ≡ false
-  passed_unused next_id unused = each id (λ k. next_id ≤ k → is_some (jobs' k) ≡ false)
-      (λ le. ap is_some passed_own ∙ still (jobs id) ∙ unused id le) (λ k e le. ap is_some (passed_apart k e) ∙ unused k le)
-    where
-      still : (o : Option (Waiting J T)) → is_some (option_map (job_standing_at position) o) ≡ is_some o
       still None = refl
       still (Some w) = refl
 

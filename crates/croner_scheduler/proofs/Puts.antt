@@ -1,6 +1,6 @@
 -- What a scheduler holds stays in order when a job is put in the place of one: another job, or the same at another position or with another
 -- run next.
-use Rattle.std.proofs.Common.{◌≡◌, refl, sym, ap, ◌∙◌, subst, ℕ, ◌≤◌, ℤ, ◌<ℤ◌, Bool, true, false, cond, Option, Some, IfSome, is_some, option_map}
+use Rattle.std.proofs.Common.{◌≡◌, refl, sym, ap, ◌∙◌, subst, ℕ, ℤ, ◌<ℤ◌, Bool, true, false, cond, Option, Some, IfSome, is_some, option_map}
 use Rattle.std.proofs.Math.Logic.{∥∥₁_elim}
 use Rattle.std.proofs.Props.{props}
 use Rattle.std.proofs.lemmas.Bool.{false≢true}
@@ -12,7 +12,8 @@ use Rattle.std.specs.Ordering.{MatchOrdering, nat_cmp, int_cmp, int_eq, is_eq, o
 use Rattle.std.specs.declared.cmp.Ordering.{Ordering}
 use Rattle.std.specs.declared.cmp.Ordering.TheVariants.{Less, Equal, Greater}
 use Rattle.croner_base.specs.Zone.{Zone, Moment}
-use Rattle.croner_scheduler.proofs.Changes.{each, own_id, other_id, turn_here, turn_apart, stops_where}
+use Rattle.croner_scheduler.proofs.Changes.{turn_here, turn_apart, stops_where}
+use Rattle.croner_scheduler.proofs.Ids.{own_id, other_id, each}
 use Rattle.croner_scheduler.proofs.Nearest.{same_second, is_itself}
 use Rattle.croner_scheduler.specs.declared.waiting.Next.{Next}
 use Rattle.croner_scheduler.specs.declared.waiting.Next.TheVariants.{Run, Over, Stopped}
@@ -101,11 +102,6 @@ module _ {J T : Type 0} (runs : J → Zone → ℤ → Type 0) (moment : T → M
       own true d = refl
       own false true = refl
       own false false = refl
-
-  pub put_unused : (next_id : ℕ) → ((k : ℕ) → next_id ≤ k → is_some (jobs k) ≡ false) → (k : ℕ) → next_id ≤ k → is_some (jobs' k) ≡ false
-  put_unused next_id unused = each id (λ k. next_id ≤ k → is_some (jobs' k) ≡ false)
-      (λ le. absurd (false≢true (sym (unused id le) ∙ ap is_some there)))
-      (λ k e le. ap is_some (put_apart k e) ∙ unused k le)
 
   pub put_fits : (k : ℕ) → ∥ IfSome (jobs' k) (Fits runs moment) ∥₁
   put_fits = each id (λ k. ∥ IfSome (jobs' k) (Fits runs moment) ∥₁)

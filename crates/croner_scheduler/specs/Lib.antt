@@ -1,5 +1,6 @@
 pub mod Standing
 pub mod Kept
+pub mod Ids
 pub mod Views
 pub mod Awaited
 pub mod Stops

@@ -1,16 +1,15 @@
 -- What contracts see of a scheduler and of a job in it.
-use Rattle.std.specs.Prelude.{option_map}
-use Rattle.std.specs.BTreeMap.{get, btree_map_len}
-use Rattle.std.specs.Ordering.{nat_cmp}
+use Rattle.std.specs.Prelude.{length, option_map}
 use Rattle.croner_base.specs.Zone.{Moment}
 use Rattle.croner_scheduler.specs.declared.scheduler.Scheduler.{Scheduler}
+use Rattle.croner_scheduler.specs.Ids.{job_of}
 use Rattle.croner_scheduler.specs.Standing.{Held}
 use Rattle.croner_scheduler.specs.Kept.{standing_of}
 
 -- what a scheduler holds
 abbrev pub held_of : {J T : Type 0} {a : _} {b : _} {c : _} → (T → Moment) → Scheduler J T a b c → Held J
 held_of moment s = record {
-  jobs = λ id. option_map (standing_of moment) (get nat_cmp s.jobs id);
-  count = btree_map_len s.jobs;
-  next_id = s.next_id;
+  jobs = λ id. option_map (standing_of moment) (job_of s.jobs id);
+  count = length s.jobs.entries;
+  next_id = s.jobs.next_id;
 }

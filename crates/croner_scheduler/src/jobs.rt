@@ -1,90 +1,355 @@
 //! The jobs by their ids.
-ghost use Rattle.std.specs.Prelude.{◌≡◌, ℕ, IfOk, IfErr, IfSome, None};
-ghost use Rattle.std.specs.BTreeMap.{get, btree_map_len};
+ghost use Rattle.std.specs.Prelude.{◌≡◌, ◌≤◌, ◌<◌, ◌+◌, ◌-◌, ◌^◌, [], ℕ, length, is_some, option_map, vec_len, vec_capacity, slice_index_or, IfOk, IfErr, IfSome, IfNone, OnOk, OnErr, Some, None, false, cond, if◌then◌else◌};
+ghost use Rattle.std.specs.BTreeMap.{is_at};
+ghost use Rattle.std.specs.List.{AllByRecursion};
+ghost use Rattle.std.specs.List.Sorted.{IsStrictlySortedBy};
+ghost use Rattle.std.specs.Map.{keys_of};
+ghost use Rattle.std.specs.Option.{option_copied};
 ghost use Rattle.std.specs.Ordering.{nat_cmp};
-ghost use Rattle.croner_scheduler.specs.Private.Steps.{FitsAfter, jobs_with, job_after_run, job_at_position, job_standing_at, job_with_next, ArePartsOf};
+ghost use Rattle.croner_scheduler.specs.Ids.{job_of};
+ghost use Rattle.croner_scheduler.specs.Private.Places.{entries_in, AreInRow, PutsInFront};
+ghost use Rattle.croner_scheduler.specs.Private.Steps.{jobs_with, job_after_run, job_at_position, job_standing_at, job_with_next, FitsAfter, ArePartsOf};
 
+use crate::iter::Iter;
 use crate::waiting::{Next, Waiting};
 use croner::{Clocked, Recurring};
-use std::alloc::AllocError;
-use std::collections::BTreeMap;
+use std::alloc::{AllocError, Global};
+use std::marker::Model;
 use std::mem;
 
-// What comes next after the next run of a job.
-pub(crate) fn next_but_one<J: Recurring<T>, T: Clocked>(
-    jobs: &BTreeMap<u64, Waiting<J, T>>,
-    id: u64,
-) -> Result<Next<T>, AllocError>
-    ensures { IfOk result (λ next. IfSome (get nat_cmp jobs.now id) (λ w. FitsAfter (J.runs w.job) T.moment w.next next)) }
-{
-    match jobs.get(&id) {
-        Some(waiting) => waiting.next_but_one(),
-        None => Ok(Next::Over),
+// Where there is no room for another place, an eighth of the places is freed, if so many are empty, or taken besides.
+const PART_OF_PLACES: usize = 8;
+
+// And this many besides, so that some room is taken where there are few.
+const LEAST_ROOM: usize = 4;
+
+// Jobs under ids that rise. Each id that was given has a place, in the order of the ids, and that of a job that was removed is empty.
+// Empty places are taken out where another job needs room and an eighth of the places is empty: so there are few of them, and a job costs
+// the same however many there are.
+#[derive(Drop)]
+pub(crate) struct Jobs<J, T> {
+    ids: Vec<u64>,
+    places: Vec<Option<Waiting<J, T>>>,
+    count: usize,
+    next_id: u64,
+}
+
+impl<J, T> Model for Jobs<J, T> {
+    ghost use Rattle.croner_scheduler.specs.Ids.{ById};
+    ghost use Rattle.croner_scheduler.specs.declared.waiting.Waiting.{Waiting};
+    ghost use Rattle.croner_scheduler.specs.Private.Places.{entries_in, ArePlaces};
+
+    ghost Value = { ById (Waiting J T) };
+
+    ghost view = { λ a. record { entries = entries_in a.ids.items a.places.items; next_id = a.next_id } };
+
+    ghost invariant = { λ a. ArePlaces a.ids.items a.places.items a.count a.next_id };
+}
+
+impl<J, T> Jobs<J, T> {
+    // No jobs, with the id of the next one.
+    pub(crate) fn new(alloc: Global, next_id: u64) -> Jobs<J, T>
+        ensures entries { result.entries ≡ [] }
+        ensures next_id { result.next_id ≡ next_id }
+    {
+        Jobs {
+            ids: Vec::new(alloc),
+            places: Vec::new(alloc),
+            count: 0,
+            next_id,
+        }
+    }
+
+    // How many jobs there are.
+    pub(crate) fn len(&self) -> usize
+        ensures { result ≡ length self.now.entries }
+    {
+        self.count
+    }
+
+    // The id of the next job.
+    pub(crate) fn next_id(&self) -> u64
+        ensures next_id { result ≡ self.now.next_id }
+        ensures unused { (id : ℕ) → result ≤ id → job_of self.now id ≡ None }
+    {
+        self.next_id
+    }
+
+    // The job of an id.
+    pub(crate) fn get(&self, id: u64) -> Option<&Waiting<J, T>>
+        ensures { option_copied result ≡ job_of self.now id }
+    {
+        match place_of(&self.ids, id) {
+            Some(place) => self.places[place].as_ref(),
+            None => None,
+        }
+    }
+
+    // The jobs with their ids.
+    pub(crate) fn iter(&self) -> Iter<'_, J, T>
+        ensures entries { result ≡ self.now.entries }
+        ensures ordered { IsStrictlySortedBy nat_cmp (keys_of self.now.entries) }
+    {
+        Iter {
+            ids: self.ids.iter(),
+            places: self.places.iter(),
+        }
+    }
+
+    // Keeps a job under the next id, and returns the id; or gives the job back for lack of memory.
+    pub(crate) fn add(&mut self, waiting: Waiting<J, T>) -> Result<u64, Waiting<J, T>>
+    where
+        J: Drop,
+        T: Drop,
+        requires { self.old.next_id < 2 ^ 64 - 1 }
+        ensures id { IfOk result (λ id. id ≡ self.old.next_id) }
+        ensures jobs { OnOk result ((other : ℕ) → job_of self.new other ≡ cond (is_at (nat_cmp self.old.next_id) other) (Some waiting) (job_of self.old other)) }
+        ensures count { OnOk result (length self.new.entries ≡ length self.old.entries + 1) }
+        ensures next_id { OnOk result (self.new.next_id ≡ self.old.next_id + 1) }
+        ensures returned { IfErr result (λ returned. returned ≡ waiting) }
+        ensures same { OnErr result (self.new ≡ self.old) }
+    {
+        let Ok(()) = make_room(&mut self.ids, &mut self.places, self.count) else {
+            return Err(waiting);
+        };
+        let id = self.next_id;
+        self.ids.push_reserved(id);
+        self.places.push_reserved(Some(waiting));
+        self.count += 1;
+        self.next_id = id + 1;
+        Ok(id)
+    }
+
+    // Removes a job.
+    pub(crate) fn remove(&mut self, id: u64) -> Option<Waiting<J, T>>
+        ensures removed { result ≡ job_of self.old id }
+        ensures jobs { (other : ℕ) → job_of self.new other ≡ cond (is_at (nat_cmp id) other) None (job_of self.old other) }
+        ensures count { length self.new.entries + (if is_some result then 1 else 0) ≡ length self.old.entries }
+        ensures next_id { self.new.next_id ≡ self.old.next_id }
+    {
+        let place = place_of(&self.ids, id)?;
+        let waiting = self.places[place].take();
+        self.count -= usize::from(waiting.is_some());
+        waiting
+    }
+
+    // One job steps to its next run.
+    pub(crate) fn step(&mut self, id: u64, next: Next<T>)
+    where
+        T: Drop,
+        ensures jobs { (other : ℕ) → job_of self.new other ≡ jobs_with id (job_after_run next) other (job_of self.old other) }
+        ensures count { length self.new.entries ≡ length self.old.entries }
+        ensures next_id { self.new.next_id ≡ self.old.next_id }
+    {
+        if let Some(place) = place_of(&self.ids, id) {
+            step(&mut self.places[place], next);
+        }
+    }
+
+    // One job moves to another position.
+    pub(crate) fn move_to(&mut self, id: u64, position: T, next: Next<T>)
+    where
+        T: Drop,
+        ensures jobs { (other : ℕ) → job_of self.new other ≡ jobs_with id (job_at_position position next) other (job_of self.old other) }
+        ensures count { length self.new.entries ≡ length self.old.entries }
+        ensures next_id { self.new.next_id ≡ self.old.next_id }
+    {
+        if let Some(place) = place_of(&self.ids, id) {
+            move_to(&mut self.places[place], position, next);
+        }
+    }
+
+    // One job moves to another position, with the same run next.
+    pub(crate) fn move_before_next(&mut self, id: u64, position: T)
+    where
+        T: Drop,
+        ensures jobs { (other : ℕ) → job_of self.new other ≡ jobs_with id (job_standing_at position) other (job_of self.old other) }
+        ensures count { length self.new.entries ≡ length self.old.entries }
+        ensures next_id { self.new.next_id ≡ self.old.next_id }
+    {
+        if let Some(place) = place_of(&self.ids, id) {
+            move_before_next(&mut self.places[place], position);
+        }
+    }
+
+    // One job has another run next.
+    pub(crate) fn renew(&mut self, id: u64, next: Next<T>)
+    where
+        T: Drop,
+        ensures jobs { (other : ℕ) → job_of self.new other ≡ jobs_with id (job_with_next next) other (job_of self.old other) }
+        ensures count { length self.new.entries ≡ length self.old.entries }
+        ensures next_id { self.new.next_id ≡ self.old.next_id }
+    {
+        if let Some(place) = place_of(&self.ids, id) {
+            renew(&mut self.places[place], next);
+        }
+    }
+
+    // Puts a job in the place of another, and returns the other with its position; or returns the new job, if there is none to replace.
+    pub(crate) fn exchange(
+        &mut self,
+        id: u64,
+        other: Waiting<J, T>,
+    ) -> Result<(J, T), Waiting<J, T>>
+    where
+        T: Drop,
+        ensures parts { IfOk result (ArePartsOf (job_of self.old id)) }
+        ensures returned { IfErr result (λ returned. (returned ≡ other) × (job_of self.old id ≡ None)) }
+        ensures jobs { (at : ℕ) → job_of self.new at ≡ jobs_with id (λ _. other) at (job_of self.old at) }
+        ensures count { length self.new.entries ≡ length self.old.entries }
+        ensures next_id { self.new.next_id ≡ self.old.next_id }
+    {
+        match place_of(&self.ids, id) {
+            Some(place) => exchange(&mut self.places[place], other),
+            None => Err(other),
+        }
     }
 }
 
-// One job steps to its next run.
-pub(crate) fn step<J, T: Drop>(jobs: &mut BTreeMap<u64, Waiting<J, T>>, id: u64, next: Next<T>)
-    ensures jobs { (other : ℕ) → get nat_cmp jobs.new other ≡ jobs_with id (job_after_run next) other (get nat_cmp jobs.old other) }
-    ensures count { btree_map_len jobs.new ≡ btree_map_len jobs.old }
+impl<J: Recurring<T>, T: Clocked> Jobs<J, T> {
+    // What comes next after the next run of a job.
+    pub(crate) fn next_but_one(&self, id: u64) -> Result<Next<T>, AllocError>
+        ensures { IfOk result (λ next. IfSome (job_of self.now id) (λ w. FitsAfter (J.runs w.job) T.moment w.next next)) }
+    {
+        match self.get(id) {
+            Some(waiting) => waiting.next_but_one(),
+            None => Ok(Next::Over),
+        }
+    }
+}
+
+fn step<J, T: Drop>(place: &mut Option<Waiting<J, T>>, next: Next<T>)
+    ensures { place.new ≡ option_map (job_after_run next) place.old }
 {
-    if let Some(waiting) = jobs.get_mut(&id) {
+    if let Some(waiting) = place {
         waiting.step(next);
     }
 }
 
-// One job moves to another position.
-pub(crate) fn move_to<J, T: Drop>(
-    jobs: &mut BTreeMap<u64, Waiting<J, T>>,
-    id: u64,
-    position: T,
-    next: Next<T>,
-)
-    ensures jobs { (other : ℕ) → get nat_cmp jobs.new other ≡ jobs_with id (job_at_position position next) other (get nat_cmp jobs.old other) }
-    ensures count { btree_map_len jobs.new ≡ btree_map_len jobs.old }
+fn move_to<J, T: Drop>(place: &mut Option<Waiting<J, T>>, position: T, next: Next<T>)
+    ensures { place.new ≡ option_map (job_at_position position next) place.old }
 {
-    if let Some(waiting) = jobs.get_mut(&id) {
+    if let Some(waiting) = place {
         waiting.move_to(position, next);
     }
 }
 
-// One job moves to another position, with the same run next.
-pub(crate) fn move_before_next<J, T: Drop>(
-    jobs: &mut BTreeMap<u64, Waiting<J, T>>,
-    id: u64,
-    position: T,
-)
-    ensures jobs { (other : ℕ) → get nat_cmp jobs.new other ≡ jobs_with id (job_standing_at position) other (get nat_cmp jobs.old other) }
-    ensures count { btree_map_len jobs.new ≡ btree_map_len jobs.old }
+fn move_before_next<J, T: Drop>(place: &mut Option<Waiting<J, T>>, position: T)
+    ensures { place.new ≡ option_map (job_standing_at position) place.old }
 {
-    if let Some(waiting) = jobs.get_mut(&id) {
+    if let Some(waiting) = place {
         waiting.move_before_next(position);
     }
 }
 
-// One job has another run next.
-pub(crate) fn renew<J, T: Drop>(jobs: &mut BTreeMap<u64, Waiting<J, T>>, id: u64, next: Next<T>)
-    ensures jobs { (other : ℕ) → get nat_cmp jobs.new other ≡ jobs_with id (job_with_next next) other (get nat_cmp jobs.old other) }
-    ensures count { btree_map_len jobs.new ≡ btree_map_len jobs.old }
+fn renew<J, T: Drop>(place: &mut Option<Waiting<J, T>>, next: Next<T>)
+    ensures { place.new ≡ option_map (job_with_next next) place.old }
 {
-    if let Some(waiting) = jobs.get_mut(&id) {
+    if let Some(waiting) = place {
         waiting.renew(next);
     }
 }
 
-// Puts a job in the place of another, and returns the other with its position; or returns the new job, if there is none to replace.
-pub(crate) fn exchange<J, T: Drop>(
-    jobs: &mut BTreeMap<u64, Waiting<J, T>>,
-    id: u64,
+fn exchange<J, T: Drop>(
+    place: &mut Option<Waiting<J, T>>,
     other: Waiting<J, T>,
 ) -> Result<(J, T), Waiting<J, T>>
-    ensures parts { IfOk result (ArePartsOf (get nat_cmp jobs.old id)) }
-    ensures returned { IfErr result (λ returned. (returned ≡ other) × (get nat_cmp jobs.old id ≡ None)) }
-    ensures jobs { (at : ℕ) → get nat_cmp jobs.new at ≡ jobs_with id (λ _. other) at (get nat_cmp jobs.old at) }
-    ensures count { btree_map_len jobs.new ≡ btree_map_len jobs.old }
+    ensures parts { IfOk result (ArePartsOf place.old) }
+    ensures returned { IfErr result (λ returned. (returned ≡ other) × (place.old ≡ None)) }
+    ensures after { place.new ≡ option_map (λ _. other) place.old }
 {
-    match jobs.get_mut(&id) {
-        Some(place) => Ok(mem::replace(place, other).into_parts()),
+    match place {
+        Some(waiting) => Ok(mem::replace(waiting, other).into_parts()),
         None => Err(other),
     }
+}
+
+// The place of an id, of those that rise: its distance from the first id, where no place was taken out between the two.
+fn place_of(ids: &[u64], id: u64) -> Option<usize>
+    ensures found { IfSome result (λ place. (place < length ids.now) × (slice_index_or ids.now place 0 ≡ id)) }
+    ensures none { IfNone result (IsStrictlySortedBy nat_cmp ids.now → AllByRecursion (λ other. is_at (nat_cmp id) other ≡ false) ids.now) }
+{
+    if let Some(first) = ids.first() {
+        let guess = id.saturating_sub(*first) as usize;
+        if guess < ids.len() && ids[guess] == id {
+            return Some(guess);
+        }
+    }
+    match ids.binary_search(&id) {
+        Ok(place) => Some(place),
+        Err(_) => None,
+    }
+}
+
+// Makes room for one more place.
+fn make_room<J: Drop, T: Drop>(
+    ids: &mut Vec<u64>,
+    places: &mut Vec<Option<Waiting<J, T>>>,
+    count: usize,
+) -> Result<(), AllocError>
+    requires { length ids.old.items ≡ length places.old.items }
+    ensures kept { AreInRow ids.old.items places.old.items ids.new.items places.new.items }
+    ensures room { OnOk result ((vec_len ids.new < vec_capacity ids.new) × (vec_len places.new < vec_capacity places.new)) }
+{
+    thin_out(ids, places, count);
+    take_room(ids)?;
+    take_room(places)
+}
+
+// Takes out the empty places where there is no room for another and an eighth of the places is empty.
+#[tactic(auto, using(crate::proofs::TakenOut::same_row))]
+fn thin_out<J: Drop, T: Drop>(
+    ids: &mut Vec<u64>,
+    places: &mut Vec<Option<Waiting<J, T>>>,
+    count: usize,
+)
+    requires { length ids.old.items ≡ length places.old.items }
+    ensures { AreInRow ids.old.items places.old.items ids.new.items places.new.items }
+{
+    if places.len() < places.capacity() || places.len() - places.len() / PART_OF_PLACES < count {
+        return;
+    }
+    take_out_empty(ids, places);
+}
+
+// Takes room for one more.
+fn take_room<X>(items: &mut Vec<X>) -> Result<(), AllocError>
+    ensures items { items.new.items ≡ items.old.items }
+    ensures room { OnOk result (vec_len items.new < vec_capacity items.new) }
+{
+    if items.len() < items.capacity() {
+        return Ok(());
+    }
+    items.reserve_exact(items.len() / PART_OF_PLACES + LEAST_ROOM)
+}
+
+// Takes out the empty places.
+fn take_out_empty<J: Drop, T: Drop>(ids: &mut Vec<u64>, places: &mut Vec<Option<Waiting<J, T>>>)
+    requires { length ids.old.items ≡ length places.old.items }
+    ensures { AreInRow ids.old.items places.old.items ids.new.items places.new.items }
+{
+    let mut kept = 0;
+    for place in 0..places.len() {
+        kept = put_in_front(ids, places, kept, place);
+    }
+    ids.truncate(kept);
+    places.truncate(kept);
+}
+
+// Puts the job of a place behind the first ones, if there is a job; returns how many are in front then.
+fn put_in_front<J, T>(
+    ids: &mut Vec<u64>,
+    places: &mut Vec<Option<Waiting<J, T>>>,
+    kept: usize,
+    place: usize,
+) -> usize
+    requires { (kept ≤ place) × (place < length places.old.items) × (length ids.old.items ≡ length places.old.items) }
+    ensures { PutsInFront ids.old.items places.old.items kept place ids.new.items places.new.items result }
+{
+    if places[place].is_none() {
+        return kept;
+    }
+    ids[kept] = ids[place];
+    places.swap(kept, place);
+    kept + 1
 }

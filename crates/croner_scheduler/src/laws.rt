@@ -31,4 +31,6 @@ pub fn gives_in_turn<J: Recurring<T>, T: Clocked>(scheduler: &Scheduler<J, T>)
     ensures across { GivesAcross J.runs (held_of T.moment scheduler.now) }
     ensures one_life { GivesOfOneLife J.runs (held_of T.moment scheduler.now) }
     ensures none_back { NeverKeepsBack J.runs (held_of T.moment scheduler.now) }
-{}
+{
+    let _ = scheduler.next_id();
+}

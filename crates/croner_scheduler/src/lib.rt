@@ -3,6 +3,7 @@
 
 mod add;
 mod again;
+mod iter;
 mod jobs;
 mod latest;
 pub mod laws;
@@ -15,6 +16,7 @@ mod waiting;
 pub use add::{AddError, Added, NotAdded, Replaced};
 pub use again::Again;
 use croner::CompactCron;
+pub use iter::Iter;
 pub use latest::Latest;
 pub use scheduler::Scheduler;
 pub use skip::Skip;

@@ -1,14 +1,15 @@
 //! The scheduler.
-ghost use Rattle.std.specs.Prelude.{◌≡◌, ◌≤◌, ℕ, ℤ, false, is_some, IfSome};
-ghost use Rattle.std.specs.BTreeMap.{get};
+ghost use Rattle.std.specs.Prelude.{◌≡◌, ◌≤◌, ℕ, ℤ, is_some, IfSome};
 ghost use Rattle.std.specs.Ordering.{nat_cmp};
+ghost use Rattle.croner_scheduler.specs.Ids.{job_of};
 ghost use Rattle.croner_scheduler.specs.Private.Turns.{has_turn};
 ghost use Rattle.croner_scheduler.specs.Kept.{Fits};
 ghost use Rattle.croner_scheduler.specs.Private.Latest.{CanGive, IsLastGiven};
 ghost use Rattle.croner_scheduler.specs.Private.Steps.{is_awaited_at, CanStand};
 
 use crate::add::{not_added, not_added_for_memory};
-use crate::jobs::{exchange, move_before_next, move_to, next_but_one, renew, step};
+use crate::iter::Iter;
+use crate::jobs::Jobs;
 use crate::latest::{Last, last_of};
 use crate::turns::{
     Due, Turn, await_next, change_turn, due_of, first_turn, take_out_next, take_out_turn,
@@ -17,7 +18,7 @@ use crate::waiting::{Waiting, next_of, second_before};
 use crate::{AddError, Added, Again, Latest, NotAdded, Replaced, Skip, Stops};
 use croner::{Clocked, Recurring};
 use std::alloc::{AllocError, Global};
-use std::collections::{BTreeMap, BTreeSet, btree_map};
+use std::collections::BTreeSet;
 
 /// Jobs under ids, each with a position: the moment up to which its runs are done.
 ///
@@ -46,22 +47,16 @@ use std::collections::{BTreeMap, BTreeSet, btree_map};
 /// let none = scheduler.take_due(1_719_826_200)?; // None
 /// ```
 pub struct Scheduler<J: Recurring<T>, T: Clocked> {
-    jobs: BTreeMap<u64, Waiting<J, T>>,
+    jobs: Jobs<J, T>,
     turns: BTreeSet<(i64, u64)>,
-    next_id: u64,
-    ghost listed: { (second : ℤ) (id : ℕ) → has_turn turns second id ≡ is_awaited_at T.moment second (get nat_cmp jobs id) },
-    ghost unused: { (id : ℕ) → next_id ≤ id → is_some (get nat_cmp jobs id) ≡ false },
-    ghost fits: { (id : ℕ) → ∥ IfSome (get nat_cmp jobs id) (Fits J.runs T.moment) ∥₁ },
+    ghost listed: { (second : ℤ) (id : ℕ) → has_turn turns second id ≡ is_awaited_at T.moment second (job_of jobs id) },
+    ghost fits: { (id : ℕ) → ∥ IfSome (job_of jobs id) (Fits J.runs T.moment) ∥₁ },
 }
 
 // By hand, so that a function that drops one calls this one: its proof doesn't go through the fields at each exit.
 impl<J: Recurring<T> + Drop, T: Clocked> Drop for Scheduler<J, T> {
     fn drop(self) {
-        let Scheduler {
-            jobs: _,
-            turns: _,
-            next_id: _,
-        } = self;
+        let Scheduler { jobs: _, turns: _ } = self;
     }
 }
 
@@ -94,9 +89,8 @@ impl<J: Recurring<T>, T: Clocked> Scheduler<J, T> {
         ensures next_id { (held_of T.moment result).next_id ≡ first_id }
     {
         Scheduler {
-            jobs: BTreeMap::new(alloc),
+            jobs: Jobs::new(alloc, first_id),
             turns: BTreeSet::new(alloc),
-            next_id: first_id,
         }
     }
 
@@ -111,7 +105,7 @@ impl<J: Recurring<T>, T: Clocked> Scheduler<J, T> {
     pub fn is_empty(&self) -> bool
         ensures { IsTrue result ↔ ((held_of T.moment self.now).count ≡ 0) }
     {
-        self.jobs.is_empty()
+        self.jobs.len() == 0
     }
 
     /// The id of the job that is added next: no job has it or a higher one. Where it is 18446744073709551615 (2^64 - 1), no more jobs can
@@ -120,7 +114,7 @@ impl<J: Recurring<T>, T: Clocked> Scheduler<J, T> {
         ensures next_id { result ≡ (held_of T.moment self.now).next_id }
         ensures unused { (id : ℕ) → result ≤ id → (held_of T.moment self.now).jobs id ≡ None }
     {
-        self.next_id
+        self.jobs.next_id()
     }
 
     /// The job with an id, and its position.
@@ -128,7 +122,7 @@ impl<J: Recurring<T>, T: Clocked> Scheduler<J, T> {
         ensures standing { option_map (λ w. standing_of T.moment w.now) result ≡ (held_of T.moment self.now).jobs id }
         ensures fits { IfSome result (λ w. ∥ Fits J.runs T.moment w.now ∥₁) }
     {
-        self.jobs.get(&id)
+        self.jobs.get(id)
     }
 
     /// The second of the earliest next run ([`Waiting::next_run`]) of all jobs: when to call [`take_due`](Scheduler::take_due) next. `None`
@@ -252,7 +246,7 @@ impl<J: Recurring<T>, T: Clocked> Scheduler<J, T> {
         ensures refused { OnErr result (IsSomeAnd ((held_of T.moment self.old).jobs id) (IsToTake now)) }
         ensures same { OnErr result (IsSame (held_of T.moment self.old) (held_of T.moment self.new)) }
     {
-        let Some(waiting) = self.jobs.get(&id) else {
+        let Some(waiting) = self.jobs.get(id) else {
             return Ok(Latest::NoJob);
         };
         let Some(next) = waiting.due_run(now) else {
@@ -276,7 +270,7 @@ impl<J: Recurring<T>, T: Clocked> Scheduler<J, T> {
         ensures refused { OnErr result (IsSomeAnd ((held_of T.moment self.old).jobs id) (IsToMove now)) }
         ensures same { OnErr result (IsSame (held_of T.moment self.old) (held_of T.moment self.new)) }
     {
-        let Some(waiting) = self.jobs.get(&id) else {
+        let Some(waiting) = self.jobs.get(id) else {
             return Ok(Skip::NoJob);
         };
         if now <= waiting.position.second() {
@@ -303,7 +297,7 @@ impl<J: Recurring<T>, T: Clocked> Scheduler<J, T> {
         ensures refused { OnErr result (IsSomeAnd ((held_of T.moment self.old).jobs id) (λ s. IsSome s.stop)) }
         ensures same { OnErr result (IsSame (held_of T.moment self.old) (held_of T.moment self.new)) }
     {
-        let Some(waiting) = self.jobs.get(&id) else {
+        let Some(waiting) = self.jobs.get(id) else {
             return Ok(Again::NotStopped);
         };
         if !waiting.is_stopped() {
@@ -312,12 +306,12 @@ impl<J: Recurring<T>, T: Clocked> Scheduler<J, T> {
         let next = next_of(&waiting.job, &waiting.position)?;
         change_turn(&mut self.turns, &waiting.next, &next, id)?;
         let again = next.again_result();
-        renew(&mut self.jobs, id, next);
+        self.jobs.renew(id, next);
         Ok(again)
     }
 
     /// The jobs with their ids, in the order of the ids. Takes no memory; the iterator borrows the scheduler.
-    pub fn iter(&self) -> btree_map::Iter<'_, u64, Waiting<J, T>>
+    pub fn iter(&self) -> Iter<'_, J, T>
         ensures jobs { (id : ℕ) → option_map (standing_of T.moment) (lookup (is_at (nat_cmp id)) result) ≡ (held_of T.moment self.now).jobs id }
         ensures count { length result ≡ (held_of T.moment self.now).count }
         ensures ordered { IsStrictlySortedBy nat_cmp (keys_of result) }
@@ -337,13 +331,13 @@ impl<J: Recurring<T>, T: Clocked> Scheduler<J, T> {
     }
 
     /// Removes a job, and returns it with its position, so that it can be added again; `None` where no job has the id. It takes no
-    /// memory, and the id isn't used again.
+    /// memory, and the id isn't used again. The room of the job is kept for jobs that are added later.
     pub fn remove(&mut self, id: u64) -> Option<(J, T)>
         ensures given { IsGivenBack T.moment ((held_of T.moment self.old).jobs id) result }
         ensures removed { IsRemoved id (held_of T.moment self.old) (held_of T.moment self.new) }
         ensures count { (held_of T.moment self.new).count + (if is_some result then 1 else 0) ≡ (held_of T.moment self.old).count }
     {
-        match self.jobs.remove(&id) {
+        match self.jobs.remove(id) {
             Some(waiting) => {
                 take_out_next(&mut self.turns, &waiting.next, id);
                 Some(waiting.into_parts())
@@ -357,7 +351,7 @@ impl<J: Recurring<T>, T: Clocked> Scheduler<J, T> {
         ensures none { IsTrue result → (held_of T.moment self.now).next_id ≡ 2 ^ 64 - 1 }
         ensures left { IsFalse result → (held_of T.moment self.now).next_id < 2 ^ 64 - 1 }
     {
-        self.next_id == u64::MAX
+        self.jobs.next_id() == u64::MAX
     }
 
     // The nearest run that is left.
@@ -394,11 +388,11 @@ impl<J: Recurring<T>, T: Clocked> Scheduler<J, T> {
         ensures told { IfOk result (TellsStop (held_of T.moment self.new) turn.id) }
         ensures refused { OnErr result (IsSame (held_of T.moment self.old) (held_of T.moment self.new)) }
     {
-        let next = next_but_one(&self.jobs, turn.id)?;
+        let next = self.jobs.next_but_one(turn.id)?;
         await_next(&mut self.turns, &next, turn.id)?;
         take_out_turn(&mut self.turns, turn.second, turn.id);
         let is_stopped = next.is_stopped();
-        step(&mut self.jobs, turn.id, next);
+        self.jobs.step(turn.id, next);
         Ok(is_stopped)
     }
 
@@ -465,14 +459,14 @@ impl<J: Recurring<T>, T: Clocked> Scheduler<J, T> {
         ensures returned { IfErr result (λ returned. returned ≡ other) }
         ensures same { OnErr result (IsSame (held_of T.moment self.old) (held_of T.moment self.new)) }
     {
-        let Some(waiting) = self.jobs.get(&id) else {
+        let Some(waiting) = self.jobs.get(id) else {
             return Err(other);
         };
         let Ok(()) = change_turn(&mut self.turns, &waiting.next, &other.next, id) else {
             return Err(other);
         };
         let is_stopped = other.is_stopped();
-        match exchange(&mut self.jobs, id, other) {
+        match self.jobs.exchange(id, other) {
             Ok((job, position)) => Ok(Replaced {
                 job,
                 position,
@@ -485,12 +479,12 @@ impl<J: Recurring<T>, T: Clocked> Scheduler<J, T> {
     // Moves a job to another position before its next run.
     fn move_before_next(&mut self, id: u64, position: T)
         requires whole { (T.moment position).fraction ≡ 0 }
-        requires can { IfSome (get nat_cmp self.old.jobs id) (CanStand T.moment position) }
+        requires can { IfSome (job_of self.old.jobs id) (CanStand T.moment position) }
         ensures moved { MovesTo (held_of T.moment self.old) id (T.moment position).instant (held_of T.moment self.new) }
         ensures kept { IfSome ((held_of T.moment self.old).jobs id) (λ s.
             IsSomeAnd ((held_of T.moment self.new).jobs id) (λ s'. (s'.next ≡ s.next) × (s'.stop ≡ None))) }
     {
-        move_before_next(&mut self.jobs, id, position);
+        self.jobs.move_before_next(id, position);
     }
 
     // Moves a job to another position. Returns whether it is stopped.
@@ -501,13 +495,13 @@ impl<J: Recurring<T>, T: Clocked> Scheduler<J, T> {
             → MovesTo (held_of T.moment self.old) id (T.moment position).instant (held_of T.moment self.new))) }
         ensures same { OnErr result (IsSame (held_of T.moment self.old) (held_of T.moment self.new)) }
     {
-        let Some(waiting) = self.jobs.get(&id) else {
+        let Some(waiting) = self.jobs.get(id) else {
             return Ok(false);
         };
         let next = next_of(&waiting.job, &position)?;
         change_turn(&mut self.turns, &waiting.next, &next, id)?;
         let is_stopped = next.is_stopped();
-        move_to(&mut self.jobs, id, position, next);
+        self.jobs.move_to(id, position, next);
         Ok(is_stopped)
     }
 
@@ -537,24 +531,20 @@ impl<J: Recurring<T>, T: Clocked> Scheduler<J, T> {
     where
         J: Drop,
         requires fits { Fits J.runs T.moment waiting }
-        requires room { self.old.next_id < 2 ^ 64 - 1 }
+        requires room { self.old.jobs.next_id < 2 ^ 64 - 1 }
         ensures added { IfOk result (λ added. IsAdded waiting.job (T.moment waiting.position) (held_of T.moment self.old) (held_of T.moment self.new) added.id) }
         ensures told { IfOk result (λ added. TellsStop (held_of T.moment self.new) added.id added.is_stopped) }
         ensures returned { IfErr result (λ returned. returned ≡ waiting) }
         ensures same { OnErr result (IsSame (held_of T.moment self.old) (held_of T.moment self.new)) }
     {
-        let id = self.next_id;
+        let id = self.jobs.next_id();
         let Ok(()) = await_next(&mut self.turns, &waiting.next, id) else {
             return Err(waiting);
         };
         let is_stopped = waiting.is_stopped();
-        match self.jobs.insert(id, waiting) {
-            Ok(_) => {
-                self.next_id = id + 1;
-                Ok(Added { id, is_stopped })
-            }
-            Err(refused) => {
-                let (_, returned) = refused.value;
+        match self.jobs.add(waiting) {
+            Ok(id) => Ok(Added { id, is_stopped }),
+            Err(returned) => {
                 take_out_next(&mut self.turns, &returned.next, id);
                 Err(returned)
             }

@@ -4,15 +4,15 @@ ghost use Rattle.std.specs.Map.Iter.{TakesFirst};
 ghost use Rattle.std.specs.Prelude.{length};
 ghost use Rattle.croner_scheduler.specs.Stops.{entry_shown};
 
-use crate::waiting::{Stop, Waiting};
-use std::collections::btree_map;
+use crate::iter::Iter;
+use crate::waiting::Stop;
 use std::iter::FusedIterator;
 use std::marker::Model;
 
 /// The ids of the stopped jobs, in order, each with the reason ([`Scheduler::stopped`](crate::Scheduler::stopped)).
 #[derive(Drop)]
 pub struct Stops<'a, J, T> {
-    pub(crate) jobs: btree_map::Iter<'a, u64, Waiting<J, T>>,
+    pub(crate) jobs: Iter<'a, J, T>,
 }
 
 /// The ids and the stops that are left.
@@ -36,7 +36,7 @@ impl<'a, J, T> Iterator for Stops<'a, J, T> {
     fn next(&mut self) -> Option<(u64, &'a Stop)> {
         while let Some((id, waiting)) = self.jobs.next() {
             if let Some(stop) = waiting.stop() {
-                return Some((*id, stop));
+                return Some((id, stop));
             }
         }
         None

@@ -11,7 +11,7 @@ use croner_base::time::table::{ClockTable, TableTime};
 use std::alloc::{AllocError, Global};
 
 /// A change of a clock: at a second it shows something other than what would follow what it showed the second before.
-#[derive(Debug, Clone, Copy, PartialEq, Eq)]
+#[derive(Debug, Clone, Copy)]
 pub struct ClockChange {
     /// The second, counted from 1970-01-01T00:00:00 UTC.
     pub second: i64,

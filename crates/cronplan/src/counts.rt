@@ -10,7 +10,7 @@ use std::alloc::{AllocError, Global};
 use std::collections::BTreeMap;
 
 /// The unit by which starts are counted. Hours and days are those that the clock shows.
-#[derive(Debug, Clone, Copy, PartialEq, Eq)]
+#[derive(Debug, Clone, Copy)]
 pub enum Unit {
     /// The second, counted from 1970-01-01T00:00:00 UTC.
     Second,

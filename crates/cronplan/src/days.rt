@@ -21,7 +21,7 @@ use std::collections::BTreeMap;
 const HOURS_PER_DAY: i64 = 24;
 
 /// An hour of a date of a clock, in a plan.
-#[derive(Debug, Clone, Copy, PartialEq, Eq)]
+#[derive(Debug, Clone, Copy)]
 pub struct HourCell {
     /// How many starts there are in it; for an hour that the clock shows twice, those of both.
     pub starts: u64,

@@ -1,7 +1,7 @@
 //! Jobs that are left out of a plan.
 
 /// A job that is left out of a plan because it starts too often.
-#[derive(Debug, Clone, Copy, PartialEq, Eq)]
+#[derive(Debug, Clone, Copy)]
 pub struct Frequent {
     /// Its place among the jobs, from 0.
     pub job: usize,

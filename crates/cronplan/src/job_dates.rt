@@ -19,7 +19,7 @@ use std::alloc::{AllocError, Global};
 use std::collections::{BTreeMap, BTreeSet};
 
 /// Dates one after the other, each counted from 1970-01-01. There is none where `last` comes before `first`.
-#[derive(Debug, Clone, Copy, PartialEq, Eq)]
+#[derive(Debug, Clone, Copy)]
 pub struct DateRange {
     pub first: i64,
     pub last: i64,

@@ -11,7 +11,7 @@ use crate::start::JobStart;
 use std::alloc::{AllocError, Global};
 
 /// A second at which jobs start.
-#[derive(Debug, Clone, Copy, PartialEq, Eq)]
+#[derive(Debug, Clone, Copy)]
 pub struct Moment {
     /// The second, counted from 1970-01-01T00:00:00 UTC.
     pub second: i64,

@@ -10,7 +10,7 @@ pub const LATEST_END: i64 = 253_402_300_799;
 
 /// The seconds from `first` up to but not including `end`, each counted from 1970-01-01T00:00:00 UTC. Where the two are equal, there is
 /// none.
-#[derive(Debug, Clone, Copy, PartialEq, Eq)]
+#[derive(Debug, Clone, Copy)]
 pub struct Span {
     pub first: i64,
     pub end: i64,

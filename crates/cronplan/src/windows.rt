@@ -11,7 +11,7 @@ use crate::start::JobStart;
 use std::alloc::{AllocError, Global};
 
 /// What bounds a window on one side.
-#[derive(Debug, Clone, Copy, PartialEq, Eq)]
+#[derive(Debug, Clone, Copy)]
 pub enum Bound {
     /// There is a start at this second.
     Start,
@@ -20,7 +20,7 @@ pub enum Bound {
 }
 
 /// A side of a window.
-#[derive(Debug, Clone, Copy, PartialEq, Eq)]
+#[derive(Debug, Clone, Copy)]
 pub struct Edge {
     /// The second, counted from 1970-01-01T00:00:00 UTC.
     pub second: i64,
@@ -28,7 +28,7 @@ pub struct Edge {
 }
 
 /// A window of a span: no start lies between its two sides. Where it begins with the span, none lies at the span's first second either.
-#[derive(Debug, Clone, Copy, PartialEq, Eq)]
+#[derive(Debug, Clone, Copy)]
 pub struct Window {
     /// Where it begins: at a start, or with the span.
     pub from: Edge,

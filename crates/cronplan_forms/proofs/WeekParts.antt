@@ -3,16 +3,19 @@ use Rattle.std.proofs.Common.{◌≡◌, ◌∙◌, ◌+◌, ◌<◌, ℕ, suc, 
 use Rattle.std.specs.List.{flat_map}
 use Rattle.std.specs.Prelude.{codes}
 use Rattle.std.proofs.lemmas.List.{at_drop_more}
+use Rattle.cronplan.specs.declared.changes.ClockChange.{ClockChange}
 use Rattle.cronplan.specs.declared.days.HourCell.{HourCell}
 use Rattle.cronplan.specs.declared.frequent.Frequent.{Frequent}
 use Rattle.cronplan_forms.specs.declared.answers.busy.ShownMoment.{ShownMoment}
 use Rattle.cronplan_forms.specs.declared.job.Job.{Job}
+use Rattle.cronplan_forms.specs.declared.view.Dropped.{Dropped}
+use Rattle.cronplan_forms.specs.declared.view.View.{View}
 use Rattle.cronplan_forms.specs.declared.week.changes.ShownChange.{ShownChange}
 use Rattle.cronplan_forms.specs.declared.week.Signs.{Signs}
 use Rattle.cronplan_forms.specs.declared.week.WeekDay.{WeekDay}
 use Rattle.cronplan_forms.specs.declared.answers.together.ShownSet.{ShownSet}
 use Rattle.cronplan_forms.specs.Answers.{moment_line, hour_line, hour_lines, left_out_line, added_label, set_line}
-use Rattle.cronplan_forms.specs.Weeks.{sign_of, row_text, step_text, change_line}
+use Rattle.cronplan_forms.specs.Weeks.{sign_of, row_text, step_text, change_text, dropped_at}
 
 -- one element more
 step : {X : Type 0} (f : X → List ℕ) (xs : List X) (i : ℕ) (x : X) → i < length xs → x ≡ get_or xs i x
@@ -31,9 +34,13 @@ pub steps_step : (s : Signs) (xs : List ℕ) (i : ℕ) (x : ℕ) → i < length 
     → flat_map (step_text s) (drop i xs) ≡ step_text s x ++ flat_map (step_text s) (drop (i + 1) xs)
 steps_step s xs i x h is = step (step_text s) xs i x h is
 
-pub changes_step : (xs : List ShownChange) (i : ℕ) (x : ShownChange) → i < length xs → x ≡ get_or xs i x
-    → flat_map change_line (drop i xs) ≡ change_line x ++ flat_map change_line (drop (i + 1) xs)
-changes_step xs i x h is = step change_line xs i x h is
+pub changes_step : (v : View) (xs : List ShownChange) (i : ℕ) (x : ShownChange) → i < length xs → x ≡ get_or xs i x
+    → flat_map (change_text v) (drop i xs) ≡ change_text v x ++ flat_map (change_text v) (drop (i + 1) xs)
+changes_step v xs i x h is = step (change_text v) xs i x h is
+
+pub dropped_step : (jobs : List Job) (c : ClockChange) (xs : List Dropped) (i : ℕ) (x : Dropped) → i < length xs → x ≡ get_or xs i x
+    → flat_map (dropped_at jobs c) (drop i xs) ≡ dropped_at jobs c x ++ flat_map (dropped_at jobs c) (drop (i + 1) xs)
+dropped_step jobs c xs i x h is = step (dropped_at jobs c) xs i x h is
 
 -- moments, hours and jobs that are left out, as lines
 pub moments_step : (xs : List ShownMoment) (i : ℕ) (x : ShownMoment) → i < length xs → x ≡ get_or xs i x

@@ -159,21 +159,19 @@ labels_of jobs = map label_text jobs
 abbrev pub label_at : List (List ℕ) → ℕ → List ℕ
 label_at labels k = title_or_none (slice_get labels k)
 
--- a job that starts too often, as a line: its file and line, its title, and how many starts it has
+-- a job by its file and line, and its title: that at a place
 unfoldable pub quoted_title : List ℕ → List ℕ
-quoted_title title = codes " " ++ (excerpt excerpt_characters title ++ codes ", ")
+quoted_title title = codes " " ++ excerpt excerpt_characters title
 
+unfoldable pub job_name : List Job → ℕ → List ℕ
+job_name jobs k = label_at (labels_of jobs) k ++ quoted_title (title_at (titles_of jobs) k)
+
+-- a job that starts too often, as a line: this, and how many starts it has
 unfoldable pub starts_line : ℕ → List ℕ
-starts_line starts = starts_text starts ++ codes "\n"
-
-unfoldable pub left_out_title : List Job → ℕ → List ℕ → List ℕ
-left_out_title jobs k title = codes "left out, since it starts too often: " ++ (label_at (labels_of jobs) k ++ quoted_title title)
-
-abbrev pub left_out_name : List Job → ℕ → List ℕ
-left_out_name jobs k = left_out_title jobs k (title_at (titles_of jobs) k)
+starts_line starts = codes ", " ++ (starts_text starts ++ codes "\n")
 
 unfoldable pub left_out_line : List Job → Frequent → List ℕ
-left_out_line jobs job = left_out_name jobs job.job ++ starts_line job.starts
+left_out_line jobs job = codes "left out, since it starts too often: " ++ (job_name jobs job.job ++ starts_line job.starts)
 
 -- each of these as a line
 unfoldable pub left_out_lines : List Job → List Frequent → List ℕ

@@ -1,14 +1,17 @@
 pub mod Answers
 pub mod Apart
+pub mod Besides
 pub mod Calendars
 pub mod Clocks
 pub mod ContentLines
 pub mod DateNames
 pub mod Escapes
+pub mod Frequents
 pub mod Months
 pub mod PlanCalendars
 pub mod PlanMonths
 pub mod Questions
+pub mod Timed
 pub mod Weeks
 pub mod WindowRuns
 pub mod Private

@@ -24,7 +24,7 @@ asks_none q = is_none q.week && not q.month && is_none q.quiet && is_none q.busy
 
 abbrev pub IsWeekAnswer : View → Option Signs → List ℕ → Type 0
 IsWeekAnswer v None text = text ≡ []
-IsWeekAnswer v (Some signs) text = (week : PlanWeek) × IsPlanWeek v.table.now v.plan.now week × (text ≡ week_text signs (shows_all v) week)
+IsWeekAnswer v (Some signs) text = (week : PlanWeek) × IsPlanWeek v.table.now v.plan.now week × (text ≡ week_text signs v week)
 
 abbrev pub IsMonthAnswer : View → Bool → List ℕ → Type 0
 IsMonthAnswer v false text = text ≡ []

@@ -3,6 +3,7 @@ use Rattle.std.specs.Prelude.{◌≡◌, ℕ, ℤ, pos, ◌+◌, ◌==◌, ◌+�
 use Rattle.std.specs.Fmt.{decimal}
 use Rattle.std.specs.Int.{saturate_signed}
 use Rattle.std.specs.List.{All, flat_map, list_any}
+use Rattle.std.specs.Ordering.{int_eq}
 use mir.Syntax.{w64}
 use Rattle.croner_base.specs.declared.time.table.ClockTable.{ClockTable}
 use Rattle.croner_base.specs.TableZone.{table_zone}
@@ -15,12 +16,15 @@ use Rattle.cronplan.specs.declared.start.JobStart.{JobStart}
 use Rattle.cronplan.specs.Counts.{starts_at}
 use Rattle.cronplan.specs.Days.{AreDays}
 use Rattle.cronplan_forms.specs.declared.answers.quiet.ShownWindow.{ShownWindow}
+use Rattle.cronplan_forms.specs.declared.job.Job.{Job}
+use Rattle.cronplan_forms.specs.declared.view.Dropped.{Dropped}
+use Rattle.cronplan_forms.specs.declared.view.View.{View}
 use Rattle.cronplan_forms.specs.declared.week.Signs.{Signs}
 use Rattle.cronplan_forms.specs.declared.week.Signs.TheVariants as signs
 use Rattle.cronplan_forms.specs.declared.week.WeekDay.{WeekDay}
 use Rattle.cronplan_forms.specs.declared.week.changes.NamedWall.{NamedWall}
 use Rattle.cronplan_forms.specs.declared.week.changes.ShownChange.{ShownChange}
-use Rattle.cronplan_forms.specs.Answers.{starts_text}
+use Rattle.cronplan_forms.specs.Answers.{job_name, shows_all, starts_text}
 use Rattle.cronplan_forms.specs.Clocks.{clock_text, second_of_day}
 use Rattle.cronplan_forms.specs.WindowRuns.{AreTold, least_longest, longest_text, most_longest, window_runs}
 use Rattle.cronplan_forms.specs.DateNames.{IsDateName, date_name_text, date_of_wall}
@@ -171,8 +175,23 @@ kind_text s = if is_put_forward s.change then forward_text s.expected s.shown el
 unfoldable pub change_line : ShownChange → List ℕ
 change_line s = kind_text s ++ (codes "; " ++ (starts_text s.starts ++ codes " then\n"))
 
-unfoldable pub change_lines : List ShownChange → List ℕ
-change_lines changes = flat_map change_line changes
+-- a job that lacks a start there, since its time is skipped and not made up for, as a line: its file and line, and its title
+unfoldable pub dropped_line : List Job → ℕ → List ℕ
+dropped_line jobs k = codes "  not made up for: " ++ (job_name jobs k ++ codes "\n")
+
+-- the same of one that lacks it at this change; nothing of one that does at another
+abbrev pub dropped_at : List Job → ClockChange → Dropped → List ℕ
+dropped_at jobs c d = if int_eq d.second c.second then dropped_line jobs d.job else []
+
+unfoldable pub dropped_lines : List Job → ClockChange → List Dropped → List ℕ
+dropped_lines jobs c dropped = flat_map (dropped_at jobs c) dropped
+
+-- a change, and below it these jobs
+unfoldable pub change_text : View → ShownChange → List ℕ
+change_text v s = change_line s ++ dropped_lines v.jobs.now s.change v.dropped.now
+
+unfoldable pub change_lines : View → List ShownChange → List ℕ
+change_lines v changes = flat_map (change_text v) changes
 
 -- ---- the picture of a plan
 
@@ -194,5 +213,5 @@ pub record IsPlanWeek (table : ClockTable) (p : Plan) (week : PlanWeek) : Type 0
   pub windows_are : AreTold (table_zone table) p least_longest week.windows
 
 -- the picture, and below it the changes and the longest windows
-abbrev pub week_text : Signs → Bool → PlanWeek → List ℕ
-week_text s is_whole week = picture_text s week.rows ++ (change_lines week.changes ++ longest_text is_whole (take most_longest (window_runs week.windows)))
+abbrev pub week_text : Signs → View → PlanWeek → List ℕ
+week_text s v week = picture_text s week.rows ++ (change_lines v week.changes ++ longest_text (shows_all v) (take most_longest (window_runs week.windows)))

@@ -5,7 +5,7 @@ ghost use Rattle.cronplan_forms.specs.Clocks.{sign_text};
 use std::fmt;
 
 /// Seconds ahead of UTC as hours, minutes and, unless 0, seconds: `+02:00`. A negative number is behind UTC.
-#[derive(Debug, Clone, Copy)]
+#[derive(Clone, Copy)]
 pub struct Ahead {
     pub seconds: i64,
 }

@@ -16,7 +16,7 @@ pub struct PlanAsked {
 }
 
 /// A file that a plan is asked for.
-#[derive(Debug, Clone, Copy)]
+#[derive(Clone, Copy)]
 pub enum FileAsked {
     /// A calendar, and how many seconds each of its events lasts, where that is told.
     Calendar(Option<u64>),

@@ -11,7 +11,7 @@ use croner_base::time::{CivilDate, CivilDateTime, CivilTime, CronDateTime, Weekd
 use std::fmt;
 
 /// A second, and what a clock shows then. As a text it is `Sun 2027-03-28 03:00:00 +02:00`.
-#[derive(Debug, Clone, Copy)]
+#[derive(Clone, Copy)]
 pub struct ClockTime {
     /// The second, counted from 1970-01-01T00:00:00 UTC.
     pub second: i64,
@@ -95,7 +95,7 @@ pub(crate) fn second_of_day(wall: i64) -> u64
 }
 
 /// The hour and the minute of a second of the day, as `02:30`.
-#[derive(Debug, Clone, Copy)]
+#[derive(Clone, Copy)]
 pub(crate) struct TimeOfDay {
     pub second: u64,
 }

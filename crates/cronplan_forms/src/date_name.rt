@@ -15,7 +15,7 @@ const DAYS_PER_WEEK: i128 = 7;
 const THURSDAY: i128 = 4;
 
 /// A date with its name: `Sun 28 Mar`, ten columns wide.
-#[derive(Debug, Clone, Copy)]
+#[derive(Clone, Copy)]
 pub struct DateName {
     /// The date, counted from 1970-01-01.
     pub date: i64,

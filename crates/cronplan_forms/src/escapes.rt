@@ -6,7 +6,7 @@ ghost use Rattle.cronplan_forms.specs.Escapes.{text_escape, html_escape, escape_
 use std::alloc::{AllocError, Global};
 
 /// Where a text is written.
-#[derive(Debug, Clone, Copy, PartialEq, Eq)]
+#[derive(Debug, Clone, Copy)]
 pub enum Form {
     /// In a value of type TEXT of a calendar (RFC 5545, section 3.3.11).
     Text,

@@ -5,7 +5,7 @@ use std::fmt;
 use std::time::Duration;
 
 /// A number of seconds, as `9h 30m`.
-#[derive(Debug, Clone, Copy)]
+#[derive(Clone, Copy)]
 pub struct Lasting {
     pub seconds: u64,
 }

@@ -13,7 +13,7 @@ pub use of_plan::months_text;
 use std::alloc::{AllocError, Global};
 
 /// A title on a date.
-#[derive(Debug, Clone, Copy)]
+#[derive(Clone, Copy)]
 pub struct Titled<'m> {
     /// The date, counted from 1970-01-01.
     pub date: i64,

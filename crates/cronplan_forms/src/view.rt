@@ -1,7 +1,9 @@
 //! What the forms of a plan show.
 ghost use Rattle.std.specs.Prelude.{◌≡◌};
 ghost use Rattle.cronplan_forms.specs.Answers.{shows_all};
+ghost use Rattle.cronplan_forms.specs.Frequents.{frequent_count};
 
+use crate::beside::OtherClock;
 use crate::job::Job;
 use croner_base::time::table::ClockTable;
 use cronplan::{Frequent, Plan};
@@ -20,6 +22,19 @@ pub struct View<'v> {
     pub frequent: &'v [Frequent],
     /// Whether the plan ends earlier than was asked for, because it keeps no more starts.
     pub is_cut: bool,
+    /// The jobs that lack a start where the clock is put forward.
+    pub dropped: &'v [Dropped],
+    /// The clock that is shown beside, if there is one. Answers don't show it.
+    pub other: Option<OtherClock<'v>>,
+}
+
+/// A job that lacks a start where the clock is put forward: its time is skipped, and not made up for.
+#[derive(Clone, Copy)]
+pub struct Dropped {
+    /// Its place among the jobs, from 0.
+    pub job: usize,
+    /// The second of that change, counted from 1970-01-01T00:00:00 UTC.
+    pub second: i64,
 }
 
 impl View<'_> {
@@ -29,4 +44,17 @@ impl View<'_> {
     {
         self.frequent.is_empty()
     }
+}
+
+/// How many starts the job at a place has, if it is one of these.
+#[tactic(auto, using(crate::proofs::Frequents::frequent_count_step))]
+pub fn frequent_count(frequent: &[Frequent], place: usize) -> Option<u64>
+    ensures { result ≡ frequent_count frequent.now place }
+{
+    for job in frequent {
+        if job.job == place {
+            return Some(job.starts);
+        }
+    }
+    None
 }

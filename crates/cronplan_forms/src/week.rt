@@ -2,7 +2,6 @@
 ghost use Rattle.std.specs.Prelude.{◌≡◌, ◌++◌, ◌<◌, IfOk, OnOk, string_bytes, codes, map};
 ghost use Rattle.std.specs.List.{All, list_any};
 ghost use Rattle.cronplan_forms.specs.Clocks.{second_of_day};
-ghost use Rattle.cronplan_forms.specs.Answers.{shows_all};
 ghost use Rattle.cronplan_forms.specs.Weeks.{block_of, digit_of, step_sign, sign_of, cells_text, moment_text, fullest_text, has_outside, has_skipped, outside_line, skipped_line, total_text, row_text, rows_text, head_text, legend_of, legend_text, steps_text, step_text, picture_text, week_text, IsNamedDay, IsPlanWeek, PlanWeek};
 
 mod changes;
@@ -16,7 +15,7 @@ use cronplan::{Day, HourCell, Moment};
 use std::alloc::{AllocError, Global};
 
 /// The signs that a terminal can show.
-#[derive(Debug, Clone, Copy, PartialEq, Eq)]
+#[derive(Debug, Clone, Copy)]
 pub enum Signs {
     /// A dot, and blocks of eight heights.
     Blocks,
@@ -40,33 +39,33 @@ const STEPS: [u64; 9] = [0, 1, 2, 4, 8, 16, 32, 64, 128];
 /// A sign stands for the number of starts in an hour, in doubling steps; an hour that the clock skips is an `x`, and one that the plan doesn't
 /// have a dash. The only error is lack of memory.
 pub fn week_text(alloc: Global, view: View<'_>, signs: Signs) -> Result<String, AllocError>
-    ensures { IfOk result (λ t. (week : PlanWeek) × IsPlanWeek view.entry.table.now view.entry.plan.now week × (string_bytes t ≡ week_text signs (shows_all view.entry) week)) }
+    ensures { IfOk result (λ t. (week : PlanWeek) × IsPlanWeek view.entry.table.now view.entry.plan.now week × (string_bytes t ≡ week_text signs view.entry week)) }
 {
     let days = view.plan.days(alloc, view.table)?;
-    let rows = rows_of(alloc, days.days.as_slice())?;
+    let rows = named_days(alloc, days.days.as_slice())?;
     let changes = shown_changes(alloc, view.plan, days.changes.as_slice())?;
     let windows = told_windows(alloc, view, LEAST_LONGEST)?;
     let runs = window_runs(alloc, windows.as_slice())?;
     let mut text = String::new(alloc);
     push_picture(&mut text, rows.as_slice(), signs)?;
-    push_changes(&mut text, changes.as_slice())?;
+    push_changes(&mut text, view, changes.as_slice())?;
     push_longest(&mut text, runs.as_slice(), view.shows_all())?;
     Ok(text)
 }
 
-// Dates, with what they are called.
-fn rows_of<'w>(alloc: Global, days: &'w [Day]) -> Result<Vec<WeekDay<'w>>, AllocError>
-    ensures days { IfOk result (λ rows. map (λ r. r.day.now) rows.items ≡ days.now) }
-    ensures names { IfOk result (λ rows. All IsNamedDay rows.items) }
+/// Dates, with what they are called. The only error is lack of memory.
+pub fn named_days<'w>(alloc: Global, days: &'w [Day]) -> Result<Vec<WeekDay<'w>>, AllocError>
+    ensures days { IfOk result (λ named. map (λ d. d.day.now) named.items ≡ days.now) }
+    ensures names { IfOk result (λ named. All IsNamedDay named.items) }
 {
-    let mut rows = Vec::new(alloc);
+    let mut named = Vec::new(alloc);
     for day in days {
-        rows.push(row_of(day))?;
+        named.push(named_day(day))?;
     }
-    Ok(rows)
+    Ok(named)
 }
 
-fn row_of(day: &Day) -> WeekDay<'_>
+fn named_day(day: &Day) -> WeekDay<'_>
     ensures day { result.day.now ≡ day.now }
     ensures name { IsNamedDay result }
 {

@@ -1,5 +1,5 @@
 -- Worked objects of a plan, written by hand from this crate's documentation, and computed from the definitions.
-use Rattle.std.proofs.Common.{◌≡◌, ℕ, pos, List, [], ◌∷◌, ◌++◌, true, false, map, refl}
+use Rattle.std.proofs.Common.{◌≡◌, ℕ, pos, List, [], ◌∷◌, ◌++◌, true, false, None, Some, map, refl}
 use Rattle.std.specs.Fmt.{digits}
 use Rattle.std.specs.Prelude.{codes}
 use Rattle.serde_json.proofs.OnLiterals.{serde_json_on_literals}
@@ -10,13 +10,16 @@ use Rattle.croner_base.specs.CivilText.{datetime_text}
 use Rattle.cronplan.specs.declared.days.HourCell.{HourCell}
 use Rattle.cronplan.specs.declared.start.JobStart.{JobStart}
 use Rattle.cronplan.specs.declared.windows.Bound.TheVariants as bounds
+use Rattle.cronplan_forms.specs.declared.beside.Beside.TheVariants as besides
+use Rattle.cronplan_forms.specs.declared.beside.OtherClock.{OtherClock}
+use Rattle.cronplan_forms.specs.declared.beside.ShownTime.{ShownTime}
 use Rattle.cronplan_forms.specs.declared.clock.ClockTime.{ClockTime}
 use Rattle.cronplan_forms.specs.declared.job.Job.{Job}
 use Rattle.cronplan_forms.specs.declared.view.View.{View}
 use Rattle.cronplan_forms.specs.declared.week.WeekDay.{WeekDay}
 use Rattle.cronplan_forms.specs.Clocks.{ahead_text}
 use Rattle.cronplan_json.specs.Objects.{time_text, instant_object, starts_of, job_starts, job_object, moment_object, window_object, date_data, hour_data, day_object}
-use Rattle.cronplan_json.specs.PlanJson.{plan_object}
+use Rattle.cronplan_json.specs.PlanJson.{other_zone, plan_object}
 
 -- ---- seconds
 
@@ -28,8 +31,25 @@ a_time = refl
 abbrev at : ℕ → List ℕ → Data
 at second text = object (member (codes "offset") (number (unsigned 7_200)) (member (codes "second") (number (unsigned second)) (member (codes "time") (string text) no_members)))
 
-a_second : (t : ClockTime) → t.second ≡ pos 1_806_195_600 → t.ahead.seconds ≡ pos 7_200 → time_text t ≡ codes "t" → instant_object t ≡ at 1_806_195_600 (codes "t")
+-- on the plan's own clock alone
+abbrev own : ClockTime → ShownTime
+own t = record { own = t; beside = besides.Nothing }
+
+a_second : (t : ClockTime) → t.second ≡ pos 1_806_195_600 → t.ahead.seconds ≡ pos 7_200 → time_text t ≡ codes "t" → instant_object (own t) ≡ at 1_806_195_600 (codes "t")
 a_second t second ahead text = rw (text, second, ahead) refl
+
+-- beside a clock that is an hour further ahead, and beside one that isn't followed
+a_second_on_both : (t s : ClockTime) → t.second ≡ pos 1_806_195_600 → t.ahead.seconds ≡ pos 7_200 → time_text t ≡ codes "t" → s.second ≡ pos 1_806_195_600
+    → s.ahead.seconds ≡ pos 10_800 → time_text s ≡ codes "s"
+    → compact_text (instant_object (record { own = t; beside = besides.Shown s }))
+    ≡ codes "{\"offset\":7200,\"second\":1806195600,\"shown\":{\"offset\":10800,\"second\":1806195600,\"time\":\"s\"},\"time\":\"t\"}"
+unfolding serde_json_on_literals digits
+a_second_on_both t s second ahead text other_second other_ahead other_text = rw (text, other_text, second, ahead, other_second, other_ahead) refl
+
+a_second_unfollowed : (t : ClockTime) → t.second ≡ pos 1_806_195_600 → t.ahead.seconds ≡ pos 7_200 → time_text t ≡ codes "t"
+    → compact_text (instant_object (record { own = t; beside = besides.Unfollowed })) ≡ codes "{\"offset\":7200,\"second\":1806195600,\"shown\":null,\"time\":\"t\"}"
+unfolding serde_json_on_literals digits
+a_second_unfollowed t second ahead text = rw (text, second, ahead) refl
 
 -- ---- starts of jobs
 
@@ -49,7 +69,7 @@ no_starts : job_starts [] starts_then 2 ≡ 0
 no_starts = refl
 
 a_moment : (t : ClockTime) → t.ahead.seconds ≡ pos 7_200 → time_text t ≡ codes "t"
-    → moment_object starts_then (record { moment = record { second = pos 1_806_195_600; wall = pos 1_806_202_800; starts = 3 }; at = t })
+    → moment_object starts_then (record { moment = record { second = pos 1_806_195_600; wall = pos 1_806_202_800; starts = 3 }; time = own t })
     ≡ object
     (member (codes "counts") (array (item (number (unsigned 1)) (item (number (unsigned 2)) no_items)))
     (member (codes "jobs") (array (item (number (unsigned 0)) (item (number (unsigned 1)) no_items)))
@@ -82,8 +102,8 @@ a_window : (from until : ClockTime) → from.second ≡ pos 0 → from.ahead.sec
     → until.ahead.seconds ≡ pos 7_200 → time_text until ≡ codes "b"
     → window_object (record {
       window = record { from = record { second = pos 0; bound = bounds.Start }; until = record { second = pos 3_600; bound = bounds.Span } };
-      from = from;
-      until = until;
+      from = own from;
+      until = own until;
     })
     ≡ object
     (member (codes "from") (at 0 (codes "a"))
@@ -118,9 +138,9 @@ a_date d date hours starts = rw (date, hours, starts) refl
 -- ---- a plan
 
 -- a plan without a job, where two hours of the day are told
-a_plan : (v : View) (first end : ClockTime) → v.is_cut ≡ false → v.zone.now ≡ codes "UTC" → v.jobs.now ≡ [] → first.second ≡ pos 0 → first.ahead.seconds ≡ pos 7_200
+a_plan : (v : View) (first end : ClockTime) → v.is_cut ≡ false → v.zone.now ≡ codes "UTC" → v.other ≡ None → v.jobs.now ≡ [] → first.second ≡ pos 0 → first.ahead.seconds ≡ pos 7_200
     → time_text first ≡ codes "a" → end.second ≡ pos 7_200 → end.ahead.seconds ≡ pos 7_200 → time_text end ≡ codes "b"
-    → plan_object v (record { first = first; end = end; moments = []; quiet = []; days = []; hours = 0 ∷ 3 ∷ [] })
+    → plan_object v (record { first = own first; end = own end; moments = []; quiet = []; days = []; hours = 0 ∷ 3 ∷ [] })
     ≡ object
     (member (codes "cut") (boolean false)
     (member (codes "days") (array no_items)
@@ -133,5 +153,12 @@ a_plan : (v : View) (first end : ClockTime) → v.is_cut ≡ false → v.zone.no
     (member (codes "to") (at 7_200 (codes "b"))
     (member (codes "version") (number (unsigned 1))
     (member (codes "zone") (string (codes "UTC")) no_members)))))))))))
-a_plan v first end cut zone jobs first_second first_ahead first_text end_second end_ahead end_text =
-    rw (first_text, end_text, cut, zone, jobs, first_second, first_ahead, end_second, end_ahead) refl
+a_plan v first end cut zone other jobs first_second first_ahead first_text end_second end_ahead end_text =
+    rw (first_text, end_text, cut, zone, other, jobs, first_second, first_ahead, end_second, end_ahead) refl
+
+-- what a second zone is called, and that none is shown
+a_second_zone : (other : OtherClock) → other.zone.now ≡ codes "Asia/Tokyo" → other_zone (Some other) ≡ Some (string (codes "Asia/Tokyo"))
+a_second_zone other zone = rw (zone) refl
+
+no_second_zone : other_zone None ≡ None
+no_second_zone = refl

@@ -1,5 +1,5 @@
 -- Jobs by their places: one more.
-use Rattle.std.proofs.Common.{◌≡◌, ◌∙◌, ◌+◌, ◌<◌, ◌≤◌, ◌==◌, ℕ, suc, Bool, true, false, cond, List, ◌∷◌, length, get_or, take, drop, ap, sym, add-one, arith, Some}
+use Rattle.std.proofs.Common.{◌≡◌, ◌∙◌, ◌+◌, ◌<◌, ◌≤◌, ◌==◌, ℕ, suc, Bool, true, false, cond, List, ◌∷◌, length, get_or, take, drop, ap, sym, add-one, arith}
 use Rattle.std.proofs.lemmas.List.{at_drop_more}
 use Rattle.std.proofs.lemmas.List.Sums.{sum_by_more}
 use Rattle.std.specs.Prelude.{is_some}
@@ -7,7 +7,8 @@ use Rattle.serde_json.specs.Data.{Data}
 use Rattle.cronplan.specs.declared.frequent.Frequent.{Frequent}
 use Rattle.cronplan.specs.declared.start.JobStart.{JobStart}
 use Rattle.cronplan_forms.specs.declared.job.Job.{Job}
-use Rattle.cronplan_json.specs.Objects.{added_of, starts_of, frequent_count, job_starts, job_object, job_objects}
+use Rattle.cronplan_forms.specs.Frequents.{frequent_count}
+use Rattle.cronplan_json.specs.Objects.{added_of, starts_of, job_starts, job_object, job_objects}
 
 -- one start more
 pub starts_of-more : (place : ℕ) (starts : List JobStart) (i : ℕ) (d : JobStart) → i < length starts
@@ -20,13 +21,6 @@ added_of_small place s = small (s.job == place) s.count where
   small : (b : Bool) (n : ℕ) → cond b n 0 ≤ n
   small true n = omega arith
   small false n = omega arith
-
--- of some jobs, the first decides, or the others
-pub frequent_count_step : (xs : List Frequent) (i : ℕ) (x : Frequent) (place : ℕ) → i < length xs → x ≡ get_or xs i x
-    → frequent_count (drop i xs) place ≡ cond (x.job == place) (Some x.starts) (frequent_count (drop (i + 1) xs) place)
-frequent_count_step xs i x place h is =
-    at_drop_more (λ (ys : List Frequent). frequent_count ys place) xs i x h
-    ∙ ap (λ (y : Frequent). cond (y.job == place) (Some y.starts) (frequent_count (drop (i + 1) xs) place)) (sym is)
 
 -- the object of a job at a place
 abbrev pub object_at : List Frequent → List JobStart → ℕ → Job → Data

@@ -1,23 +1,28 @@
 -- The object of a plan has no float, so that its text is known.
 use Rattle.std.proofs.Common.{◌≡◌, ◌∙◌, ℕ, suc, ℤ, pos, negsuc, List, [], ◌∷◌, ◌||◌, Bool, true, false, if◌then◌else◌, Option, Some, None, map, ap, refl}
-use Rattle.std.specs.Prelude.{is_some}
+use Rattle.std.specs.Prelude.{codes, is_some}
 use Rattle.croner_base.specs.declared.time.civil.CivilDateTime.{CivilDateTime}
 use Rattle.cronplan.specs.declared.days.HourCell.{HourCell}
 use Rattle.cronplan.specs.declared.frequent.Frequent.{Frequent}
 use Rattle.cronplan.specs.declared.start.JobStart.{JobStart}
-use Rattle.cronplan_forms.specs.declared.answers.busy.ShownMoment.{ShownMoment}
-use Rattle.cronplan_forms.specs.declared.answers.quiet.ShownWindow.{ShownWindow}
+use Rattle.cronplan_forms.specs.declared.beside.Beside.{Beside}
+use Rattle.cronplan_forms.specs.declared.beside.Beside.TheVariants as besides
+use Rattle.cronplan_forms.specs.declared.beside.OtherClock.{OtherClock}
+use Rattle.cronplan_forms.specs.declared.beside.ShownTime.{ShownTime}
 use Rattle.cronplan_forms.specs.declared.clock.ClockTime.{ClockTime}
 use Rattle.cronplan_forms.specs.declared.job.Job.{Job}
+use Rattle.cronplan_forms.specs.declared.timed.TimedMoment.{TimedMoment}
+use Rattle.cronplan_forms.specs.declared.timed.TimedWindow.{TimedWindow}
 use Rattle.cronplan_forms.specs.declared.view.View.{View}
 use Rattle.cronplan_forms.specs.declared.week.WeekDay.{WeekDay}
 use Rattle.cronplan.specs.Moments.{at_second}
-use Rattle.serde_json.specs.Data.{Data, null, array}
+use Rattle.serde_json.specs.Data.{Data, Members, null, array, object, put}
 use Rattle.serde_json.specs.Find.{is_float, of_integer}
 use Rattle.serde_json.specs.View.{items_of}
 use Rattle.serde_json.specs.Written.{has_float, items_have_float, members_have_float, compact_text}
-use Rattle.cronplan_json.specs.Objects.{count, counts, instant_object, frequent_count, job_starts, job_members, with_user, job_object, job_objects, moment_object, window_object, date_data, hour_data, day_object}
-use Rattle.cronplan_json.specs.PlanJson.{Told, object_with, plan_object, IsPlanData, IsPlanJson}
+use Rattle.cronplan_forms.specs.Frequents.{frequent_count}
+use Rattle.cronplan_json.specs.Objects.{count, counts, clock_members, instant_object, job_starts, job_members, user_data, with_optional, with_shown, job_object, job_objects, moment_object, moment_members, window_object, date_data, hour_data, day_object}
+use Rattle.cronplan_json.specs.PlanJson.{Told, other_zone, plan_members, plan_object, view_members, IsPlanData, IsPlanJson}
 
 integer_whole : (z : ℤ) → is_float (of_integer z) ≡ false
 integer_whole (pos n) = refl
@@ -27,10 +32,17 @@ counts_whole : (ns : List ℕ) → items_have_float (items_of (map count ns)) �
 counts_whole [] = refl
 counts_whole (n ∷ ns) = counts_whole ns
 
-instant_whole : (t : ClockTime) → has_float (instant_object t) ≡ false
-instant_whole t = rw (integer_whole t.ahead.seconds, integer_whole t.second) refl
+clock_whole : (t : ClockTime) → members_have_float (clock_members t) ≡ false
+clock_whole t = rw (integer_whole t.ahead.seconds, integer_whole t.second) refl
 
-user_whole : (user : List ℕ) (job : Job) (starts : ℕ) (is_frequent : Bool) → members_have_float (with_user user (job_members job starts is_frequent)) ≡ false
+instant_whole : (t : ShownTime) → has_float (instant_object t) ≡ false
+instant_whole t = at t.beside where
+  at : (b : Beside) → members_have_float (with_shown b (clock_members t.own)) ≡ false
+  at besides.Nothing = clock_whole t.own
+  at besides.Unfollowed = rw (integer_whole t.own.ahead.seconds, integer_whole t.own.second) refl
+  at (besides.Shown s) = rw (integer_whole t.own.ahead.seconds, integer_whole t.own.second, integer_whole s.ahead.seconds, integer_whole s.second) refl
+
+user_whole : (user : List ℕ) (job : Job) (starts : ℕ) (is_frequent : Bool) → members_have_float (with_optional (codes "user") (user_data user) (job_members job starts is_frequent)) ≡ false
 user_whole [] job starts is_frequent = refl
 user_whole (c ∷ cs) job starts is_frequent = refl
 
@@ -46,19 +58,24 @@ own_whole : (f : JobStart → ℕ) (starts : List JobStart) → items_have_float
 own_whole f [] = refl
 own_whole f (s ∷ ss) = own_whole f ss
 
-moment_whole : (starts : List JobStart) (s : ShownMoment) → has_float (moment_object starts s) ≡ false
-moment_whole starts s =
-    let starts_then : List JobStart = at_second s.moment.second starts in
-    rw (own_whole (λ (t : JobStart). t.count) starts_then, own_whole (λ (t : JobStart). t.job) starts_then, integer_whole s.at.ahead.seconds, integer_whole s.moment.second) refl
+moment_whole : (starts : List JobStart) (m : TimedMoment) → has_float (moment_object starts m) ≡ false
+moment_whole starts m = at m.time.beside where
+  starts_then : List JobStart
+  starts_then = at_second m.moment.second starts
 
-moments_whole : (starts : List JobStart) (shown : List ShownMoment) → items_have_float (items_of (map (moment_object starts) shown)) ≡ false
+  at : (b : Beside) → members_have_float (with_shown b (moment_members starts_then m)) ≡ false
+  at besides.Nothing = rw (own_whole (λ (t : JobStart). t.count) starts_then, own_whole (λ (t : JobStart). t.job) starts_then, integer_whole m.time.own.ahead.seconds, integer_whole m.moment.second) refl
+  at besides.Unfollowed = rw (own_whole (λ (t : JobStart). t.count) starts_then, own_whole (λ (t : JobStart). t.job) starts_then, integer_whole m.time.own.ahead.seconds, integer_whole m.moment.second) refl
+  at (besides.Shown s) = rw (own_whole (λ (t : JobStart). t.count) starts_then, own_whole (λ (t : JobStart). t.job) starts_then, integer_whole m.time.own.ahead.seconds, integer_whole m.moment.second, integer_whole s.ahead.seconds, integer_whole s.second) refl
+
+moments_whole : (starts : List JobStart) (timed : List TimedMoment) → items_have_float (items_of (map (moment_object starts) timed)) ≡ false
 moments_whole starts [] = refl
 moments_whole starts (s ∷ ss) = rw (moment_whole starts s) (moments_whole starts ss)
 
-window_whole : (s : ShownWindow) → has_float (window_object s) ≡ false
+window_whole : (s : TimedWindow) → has_float (window_object s) ≡ false
 window_whole s = rw (instant_whole s.from, instant_whole s.until) refl
 
-windows_whole : (shown : List ShownWindow) → items_have_float (items_of (map window_object shown)) ≡ false
+windows_whole : (timed : List TimedWindow) → items_have_float (items_of (map window_object timed)) ≡ false
 windows_whole [] = refl
 windows_whole (s ∷ ss) = rw (window_whole s) (windows_whole ss)
 
@@ -84,24 +101,53 @@ days_whole [] = refl
 days_whole (d ∷ ds) = rw (day_whole d) (days_whole ds)
 
 plan_whole : (v : View) (told : Told) → has_float (plan_object v told) ≡ false
-plan_whole v told =
-    rw (
-      days_whole told.days,
-      instant_whole told.first,
-      counts_whole told.hours,
-      jobs_whole v.frequent.now v.plan.now.starts.items 0 v.jobs.now,
-      moments_whole v.plan.now.starts.items told.moments,
-      windows_whole told.quiet,
-      instant_whole told.end,
-    ) refl
+plan_whole v told = at v.other where
+  days : Data
+  days = array (items_of (map day_object told.days))
 
--- an object with such lists is that of what they tell
-pub with_lists : (v : View) (told : Told) (d days hours moments quiet : Data) → d ≡ object_with v told.first told.end days hours moments quiet
+  moments : Data
+  moments = array (items_of (map (moment_object v.plan.now.starts.items) told.moments))
+
+  quiet : Data
+  quiet = array (items_of (map window_object told.quiet))
+
+  at : (o : Option OtherClock)
+      → members_have_float (with_optional (codes "shown_zone") (other_zone o) (plan_members v told.first told.end days (counts told.hours) moments quiet)) ≡ false
+  at None =
+      rw (
+        days_whole told.days,
+        instant_whole told.first,
+        counts_whole told.hours,
+        jobs_whole v.frequent.now v.plan.now.starts.items 0 v.jobs.now,
+        moments_whole v.plan.now.starts.items told.moments,
+        windows_whole told.quiet,
+        instant_whole told.end,
+      ) refl
+  at (Some other) =
+      rw (
+        days_whole told.days,
+        instant_whole told.first,
+        counts_whole told.hours,
+        jobs_whole v.frequent.now v.plan.now.starts.items 0 v.jobs.now,
+        moments_whole v.plan.now.starts.items told.moments,
+        windows_whole told.quiet,
+        instant_whole told.end,
+      ) refl
+
+-- the members of a view, with such lists put at their places and with the second zone, are those of what is told
+pub with_lists : (v : View) (told : Told) (own dated hourly momentary quieted all : Members) (days hours moments quiet : Data) → own ≡ view_members v told.first told.end
+    → dated ≡ put (codes "days") days own → hourly ≡ put (codes "hours") hours dated → momentary ≡ put (codes "moments") moments hourly
+    → quieted ≡ put (codes "quiet") quiet momentary → all ≡ with_optional (codes "shown_zone") (other_zone v.other) quieted
     → days ≡ array (items_of (map day_object told.days)) → hours ≡ counts told.hours
     → moments ≡ array (items_of (map (moment_object v.plan.now.starts.items) told.moments)) → quiet ≡ array (items_of (map window_object told.quiet))
-    → d ≡ plan_object v told
-with_lists v told d days hours moments quiet is days_are hours_are moments_are quiet_are =
-    is ∙ rw (days_are, hours_are, moments_are, quiet_are) refl
+    → object all ≡ plan_object v told
+with_lists v told own dated hourly momentary quieted all days hours moments quiet own_is dated_is hourly_is momentary_is quieted_is all_is days_are hours_are moments_are quiet_are =
+    ap (λ (m : Members). object m)
+    (all_is ∙ ap (λ (m : Members). with_optional (codes "shown_zone") (other_zone v.other) m)
+    (quieted_is ∙ ap (λ (m : Members). put (codes "quiet") quiet m)
+    (momentary_is ∙ ap (λ (m : Members). put (codes "moments") moments m)
+    (hourly_is ∙ ap (λ (m : Members). put (codes "hours") hours m) (dated_is ∙ ap (λ (m : Members). put (codes "days") days m) own_is)))))
+    ∙ rw (days_are, hours_are, moments_are, quiet_are) refl
 
 -- so its text is that of the object
 pub text_of_plan : (v : View) (d : Data) (text : List ℕ) → IsPlanData v d → (has_float d ≡ false → text ≡ compact_text d) → IsPlanJson v text

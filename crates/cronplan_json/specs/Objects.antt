@@ -11,13 +11,17 @@ use Rattle.cronplan.specs.declared.frequent.Frequent.{Frequent}
 use Rattle.cronplan.specs.declared.start.JobStart.{JobStart}
 use Rattle.cronplan.specs.Moments.{at_second}
 use Rattle.cronplan.specs.Windows.{seconds_in}
-use Rattle.cronplan_forms.specs.declared.answers.busy.ShownMoment.{ShownMoment}
-use Rattle.cronplan_forms.specs.declared.answers.quiet.ShownWindow.{ShownWindow}
+use Rattle.cronplan_forms.specs.declared.beside.Beside.{Beside}
+use Rattle.cronplan_forms.specs.declared.beside.Beside.TheVariants as besides
+use Rattle.cronplan_forms.specs.declared.beside.ShownTime.{ShownTime}
 use Rattle.cronplan_forms.specs.declared.clock.ClockTime.{ClockTime}
 use Rattle.cronplan_forms.specs.declared.job.Job.{Job}
+use Rattle.cronplan_forms.specs.declared.timed.TimedMoment.{TimedMoment}
+use Rattle.cronplan_forms.specs.declared.timed.TimedWindow.{TimedWindow}
 use Rattle.cronplan_forms.specs.declared.week.WeekDay.{WeekDay}
 use Rattle.cronplan_forms.specs.Answers.{is_at_edge}
 use Rattle.cronplan_forms.specs.Clocks.{ahead_text}
+use Rattle.cronplan_forms.specs.Frequents.{frequent_count}
 
 -- ---- numbers
 
@@ -40,12 +44,30 @@ time_text t =
     datetime_text t.civil.date.year t.civil.date.month t.civil.date.day t.civil.time.hour t.civil.time.minute t.civil.time.second
     ++ ahead_text t.ahead.seconds
 
--- a second: how far the clock is ahead of UTC then, its number, and that text
-abbrev pub instant_object : ClockTime → Data
-instant_object t = object
-    (member (codes "offset") (integer t.ahead.seconds)
+-- members, with one more at its place, if there is one
+abbrev pub with_optional : List ℕ → Option Data → Members → Members
+with_optional name None members = members
+with_optional name (Some d) members = put name d members
+
+-- a second on one clock: how far the clock is ahead of UTC then, its number, and that text
+abbrev pub clock_members : ClockTime → Members
+clock_members t =
+    member (codes "offset") (integer t.ahead.seconds)
     (member (codes "second") (integer t.second)
-    (member (codes "time") (string (time_text t)) no_members)))
+    (member (codes "time") (string (time_text t)) no_members))
+
+-- the same on the clock of a second zone, if one is shown; null where that isn't followed
+abbrev pub shown_data : Beside → Option Data
+shown_data besides.Nothing = None
+shown_data besides.Unfollowed = Some null
+shown_data (besides.Shown t) = Some (object (clock_members t))
+
+abbrev pub with_shown : Beside → Members → Members
+with_shown beside members = with_optional (codes "shown") (shown_data beside) members
+
+-- a second on both clocks
+abbrev pub instant_object : ShownTime → Data
+instant_object t = object (with_shown t.beside (clock_members t.own))
 
 -- ---- jobs
 
@@ -56,12 +78,7 @@ added_of place s = if s.job == place then s.count else 0
 abbrev pub starts_of : ℕ → List JobStart → ℕ
 starts_of place starts = sum_by (added_of place) starts
 
--- how many starts the job at a place has, if it is one of these
-abbrev pub frequent_count : List Frequent → ℕ → Option ℕ
-frequent_count [] place = None
-frequent_count (f ∷ fs) place = if f.job == place then Some f.starts else frequent_count fs place
-
--- the same of any: of one that is none of these, how many starts of the plan it has
+-- how many starts the job at a place has: one of those that start too often, or of the plan
 abbrev pub job_starts : List Frequent → List JobStart → ℕ → ℕ
 job_starts frequent starts place = unwrap_or (frequent_count frequent place) (starts_of place starts)
 
@@ -76,13 +93,14 @@ job_members job starts is_frequent =
     (member (codes "title") (string job.title.now)
     (member (codes "words") (string job.words.now) no_members))))))
 
--- with the name of its user at its place, where it has one
-abbrev pub with_user : List ℕ → Members → Members
-with_user [] members = members
-with_user (c ∷ cs) members = put (codes "user") (string (c ∷ cs)) members
+-- the name of its user, where it has one
+abbrev pub user_data : List ℕ → Option Data
+user_data [] = None
+user_data (c ∷ cs) = Some (string (c ∷ cs))
 
+-- both
 abbrev pub job_object : Job → ℕ → Bool → Data
-job_object job starts is_frequent = object (with_user job.user.now (job_members job starts is_frequent))
+job_object job starts is_frequent = object (with_optional (codes "user") (user_data job.user.now) (job_members job starts is_frequent))
 
 -- each of the jobs from a place on
 abbrev pub job_objects : List Frequent → List JobStart → ℕ → List Job → List Data
@@ -100,28 +118,31 @@ abbrev pub places_of : List JobStart → Data
 places_of starts = array (items_of (map (λ s. count s.job) starts))
 
 -- a moment with these starts: those two, when it is, and how many starts there are
-abbrev pub starts_object : List JobStart → ShownMoment → Data
-starts_object starts s = object
-    (member (codes "counts") (counts_of starts)
+abbrev pub moment_members : List JobStart → TimedMoment → Members
+moment_members starts m =
+    member (codes "counts") (counts_of starts)
     (member (codes "jobs") (places_of starts)
-    (member (codes "offset") (integer s.at.ahead.seconds)
-    (member (codes "second") (integer s.moment.second)
-    (member (codes "starts") (count s.moment.starts)
-    (member (codes "time") (string (time_text s.at)) no_members))))))
+    (member (codes "offset") (integer m.time.own.ahead.seconds)
+    (member (codes "second") (integer m.moment.second)
+    (member (codes "starts") (count m.moment.starts)
+    (member (codes "time") (string (time_text m.time.own)) no_members)))))
+
+abbrev pub starts_object : List JobStart → TimedMoment → Data
+starts_object starts m = object (with_shown m.time.beside (moment_members starts m))
 
 -- a moment of a plan with such starts
-abbrev pub moment_object : List JobStart → ShownMoment → Data
-moment_object starts s = starts_object (at_second s.moment.second starts) s
+abbrev pub moment_object : List JobStart → TimedMoment → Data
+moment_object starts m = starts_object (at_second m.moment.second starts) m
 
 -- ---- windows
 
 -- a window: where it begins, whether it may be longer, how many seconds it has, and where it ends
-abbrev pub window_object : ShownWindow → Data
-window_object s = object
-    (member (codes "from") (instant_object s.from)
-    (member (codes "open") (boolean (is_at_edge s.window))
-    (member (codes "seconds") (count (seconds_in s.window))
-    (member (codes "to") (instant_object s.until) no_members))))
+abbrev pub window_object : TimedWindow → Data
+window_object w = object
+    (member (codes "from") (instant_object w.from)
+    (member (codes "open") (boolean (is_at_edge w.window))
+    (member (codes "seconds") (count (seconds_in w.window))
+    (member (codes "to") (instant_object w.until) no_members))))
 
 -- ---- dates
 

@@ -1,23 +1,19 @@
 //! The dates of a plan, hour by hour, and its starts by the hour of the day.
 ghost use Rattle.std.specs.Prelude.{◌≡◌, IfOk, List, ℕ, map};
-ghost use Rattle.std.specs.List.{All};
 ghost use Rattle.serde_json.specs.Data.{array};
 ghost use Rattle.serde_json.specs.View.{view, items_of};
-ghost use Rattle.croner_base.specs.TableZone.{table_zone};
 ghost use Rattle.cronplan_forms.specs.Answers.{AreHourCounts};
-ghost use Rattle.cronplan_forms.specs.Weeks.{IsNamedDay};
 ghost use Rattle.cronplan_json.specs.Objects.{counts, date_data, hour_data, day_object};
 ghost use Rattle.cronplan_json.specs.PlanJson.{AreShownDays};
 
+use crate::members::put_count;
 use crate::numbers::numbers_value;
 use croner_base::time::CivilDateTime;
 use croner_base::time::table::ClockTable;
-use cronplan::{Day, HourCell, Plan, Unit};
-use cronplan_forms::{DateName, WeekDay};
-use serde_json::{Value, json};
+use cronplan::{HourCell, Plan};
+use cronplan_forms::{WeekDay, hour_counts, named_days};
+use serde_json::{Map, Value, put};
 use std::alloc::{AllocError, Global};
-
-const HOURS_PER_DAY: usize = 24;
 
 /// An object for each date of a plan. The only error is want of memory.
 pub(crate) fn days_value(
@@ -33,28 +29,6 @@ pub(crate) fn days_value(
     Ok(Value::Array(items))
 }
 
-// Dates, with what they are called.
-fn named_days<'d>(alloc: Global, days: &'d [Day]) -> Result<Vec<WeekDay<'d>>, AllocError>
-    ensures days { IfOk result (λ named. map (λ d. d.day.now) named.items ≡ days.now) }
-    ensures names { IfOk result (λ named. All IsNamedDay named.items) }
-{
-    let mut named = Vec::new(alloc);
-    for day in days {
-        named.push(named_day(day))?;
-    }
-    Ok(named)
-}
-
-fn named_day(day: &Day) -> WeekDay<'_>
-    ensures day { result.day.now ≡ day.now }
-    ensures name { IsNamedDay result }
-{
-    WeekDay {
-        name: DateName::of(day.date),
-        day,
-    }
-}
-
 fn day_items(alloc: Global, days: &[WeekDay<'_>]) -> Result<Vec<Value>, AllocError>
     ensures { IfOk result (λ items. map view items.items ≡ map day_object days.now) }
 {
@@ -68,12 +42,13 @@ fn day_items(alloc: Global, days: &[WeekDay<'_>]) -> Result<Vec<Value>, AllocErr
 fn day_object(alloc: Global, day: WeekDay<'_>) -> Result<Value, AllocError>
     ensures { IfOk result (λ v. view v ≡ day_object day.entry) }
 {
-    let starts = day.day.starts;
-    json!(in alloc; {
-        "date": date_value(alloc, day.name.civil)?,
-        "hours": cells_value(alloc, day.day.hours.as_slice())?,
-        "starts": starts
-    })
+    let mut members = Map::new(alloc);
+    let date = date_value(alloc, day.name.civil)?;
+    put(&mut members, alloc, "date", date)?;
+    let hours = cells_value(alloc, day.day.hours.as_slice())?;
+    put(&mut members, alloc, "hours", hours)?;
+    put_count(alloc, &mut members, "starts", day.day.starts)?;
+    Ok(Value::Object(members))
 }
 
 // The text of a date; null of one that no calendar has.
@@ -123,15 +98,4 @@ pub(crate) fn hours_value(alloc: Global, plan: &Plan) -> Result<Value, AllocErro
 {
     let hours = hour_counts(alloc, plan)?;
     numbers_value(alloc, hours.as_slice())
-}
-
-fn hour_counts(alloc: Global, plan: &Plan) -> Result<Vec<u64>, AllocError>
-    ensures { IfOk result (λ hours. AreHourCounts plan.now.starts.items hours.items) }
-{
-    let counts = plan.counts(alloc, Unit::HourOfDay)?;
-    let mut hours = Vec::new(alloc);
-    for hour in 0..HOURS_PER_DAY {
-        hours.push(counts.get(&(hour as i64)).copied().unwrap_or(0))?;
-    }
-    Ok(hours)
 }

@@ -1,15 +1,17 @@
 //! The whole object.
-ghost use Rattle.std.specs.Prelude.{◌≡◌, IfOk, string_bytes};
-ghost use Rattle.serde_json.specs.View.{view as data_of};
-ghost use Rattle.cronplan_json.specs.PlanJson.{object_with, IsPlanData, IsPlanJson};
+ghost use Rattle.std.specs.Prelude.{◌≡◌, IfOk, OnOk, codes, string_bytes};
+ghost use Rattle.serde_json.specs.View.{members_view, view as data_of};
+ghost use Rattle.cronplan_json.specs.Objects.{with_optional};
+ghost use Rattle.cronplan_json.specs.PlanJson.{other_zone, view_members, IsPlanData, IsPlanJson};
 
 use crate::days::{days_value, hours_value};
-use crate::instants::instant_object;
+use crate::instants::put_instant;
 use crate::jobs::jobs_value;
+use crate::members::{put_count, put_flag, put_text};
 use crate::moments::moments_value;
 use crate::quiet::quiet_value;
-use cronplan_forms::{ClockTime, View};
-use serde_json::{Value, json};
+use cronplan_forms::{OtherClock, ShownTime, View};
+use serde_json::{Map, Value, put};
 use std::alloc::{AllocError, Global};
 
 /// The version of the form of this object.
@@ -18,8 +20,8 @@ pub const VERSION: u32 = 1;
 /// A plan as one object of JSON, without blanks or a line feed: its span, its jobs but for their commands, its moments with the jobs that start
 /// then, the windows of at least an hour in which nothing starts, its dates hour by hour, and its starts by the hour of the day.
 ///
-/// A moment names its jobs by their places among the jobs. Of a job that starts too often to be shown only the count of its starts is told. The
-/// only error is want of memory.
+/// A moment names its jobs by their places among the jobs. Of a job that starts too often to be shown only the count of its starts is told. Where
+/// the clock of a second zone is shown, each second has what that shows then, or null where it isn't followed. The only error is want of memory.
 pub fn plan_json(alloc: Global, view: View<'_>) -> Result<String, AllocError>
     ensures { IfOk result (λ t. IsPlanJson view.entry (string_bytes t)) }
 {
@@ -32,53 +34,52 @@ fn plan_object(alloc: Global, view: View<'_>) -> Result<Value, AllocError>
     ensures { IfOk result (λ v. IsPlanData view.entry (data_of v)) }
 {
     let (plan, table) = (view.plan, view.table);
+    let first = ShownTime::at(view, plan.span.first);
+    let end = ShownTime::at(view, plan.span.end);
+    let mut members = own_members(alloc, view, &first, &end)?;
     let days = days_value(alloc, plan, table)?;
+    put(&mut members, alloc, "days", days)?;
     let hours = hours_value(alloc, plan)?;
-    let moments = moments_value(alloc, plan, table)?;
-    let quiet = quiet_value(alloc, plan, table)?;
-    let lists = Lists {
-        days,
-        hours,
-        moments,
-        quiet,
-    };
-    let first = ClockTime::shown_at(table, plan.span.first);
-    let end = ClockTime::shown_at(table, plan.span.end);
-    let object = object_of(alloc, view, &first, &end, lists)?;
-    Ok(object)
+    put(&mut members, alloc, "hours", hours)?;
+    let moments = moments_value(alloc, view)?;
+    put(&mut members, alloc, "moments", moments)?;
+    let quiet = quiet_value(alloc, view)?;
+    put(&mut members, alloc, "quiet", quiet)?;
+    put_zone(alloc, &mut members, view.other)?;
+    Ok(Value::Object(members))
 }
 
-// What is told of a plan beside its jobs.
-#[derive(Drop)]
-struct Lists {
-    days: Value,
-    hours: Value,
-    moments: Value,
-    quiet: Value,
-}
-
-// The object of a view whose span begins and ends at these seconds, with these lists.
-fn object_of(
+// The members of a view but for its lists, whose span begins and ends at these seconds.
+fn own_members(
     alloc: Global,
     view: View<'_>,
-    first: &ClockTime,
-    end: &ClockTime,
-    lists: Lists,
-) -> Result<Value, AllocError>
-    ensures { IfOk result (λ v. data_of v ≡ object_with view.entry first.now end.now (data_of lists.days) (data_of lists.hours) (data_of lists.moments) (data_of lists.quiet)) }
+    first: &ShownTime,
+    end: &ShownTime,
+) -> Result<Map<String, Value>, AllocError>
+    ensures { IfOk result (λ members. members_view members.entries ≡ view_members view.entry first.now end.now) }
 {
-    let (zone, is_cut) = (view.zone, view.is_cut);
-    json!(in alloc; {
-        "cut": is_cut,
-        "days": lists.days,
-        "from": instant_object(alloc, first)?,
-        "hours": lists.hours,
-        "jobs": jobs_value(alloc, view)?,
-        "kind": "plan",
-        "moments": lists.moments,
-        "quiet": lists.quiet,
-        "to": instant_object(alloc, end)?,
-        "version": VERSION,
-        "zone": zone
-    })
+    let mut members = Map::new(alloc);
+    put_flag(alloc, &mut members, "cut", view.is_cut)?;
+    put_instant(alloc, &mut members, "from", first)?;
+    let jobs = jobs_value(alloc, view)?;
+    put(&mut members, alloc, "jobs", jobs)?;
+    put_text(alloc, &mut members, "kind", "plan")?;
+    put_instant(alloc, &mut members, "to", end)?;
+    put_count(alloc, &mut members, "version", u64::from(VERSION))?;
+    put_text(alloc, &mut members, "zone", view.zone)?;
+    Ok(members)
+}
+
+// Puts what the second zone is called among members, if one is shown.
+fn put_zone(
+    alloc: Global,
+    members: &mut Map<String, Value>,
+    other: Option<OtherClock<'_>>,
+) -> Result<(), AllocError>
+    ensures { OnOk result (members_view members.new.entries ≡ with_optional (codes "shown_zone") (other_zone other.entry) (members_view members.old.entries)) }
+{
+    match other {
+        Some(other) => put_text(alloc, members, "shown_zone", other.zone),
+        None => Ok(()),
+    }
 }

@@ -1,14 +1,16 @@
 //! The jobs of a plan, each with how many starts it has.
-ghost use Rattle.std.specs.Prelude.{◌≡◌, ◌+◌, ◌≤◌, ◌^◌, ℕ, IfOk, OnOk, is_some, length, map, unwrap_or};
+ghost use Rattle.std.specs.Prelude.{◌≡◌, ◌+◌, ◌≤◌, ◌^◌, ℕ, IfOk, OnOk, is_some, codes, length, map, unwrap_or};
 ghost use Rattle.std.specs.BTreeMap.{get};
 ghost use Rattle.std.specs.Ordering.{nat_cmp};
-ghost use Rattle.serde_json.specs.Data.{array, object};
+ghost use Rattle.serde_json.specs.Data.{array};
 ghost use Rattle.serde_json.specs.View.{view as data_of, items_of, members_view};
-ghost use Rattle.cronplan_json.specs.Objects.{added_of, starts_of, frequent_count, job_starts, with_user, job_members, job_object, job_objects};
+ghost use Rattle.cronplan_forms.specs.Frequents.{frequent_count};
+ghost use Rattle.cronplan_json.specs.Objects.{added_of, starts_of, job_starts, user_data, job_members, job_object, job_objects, with_optional};
 
-use cronplan::{Frequent, JobStart};
-use cronplan_forms::{Job, View};
-use serde_json::{Map, Value, json, put};
+use crate::members::{put_count, put_flag, put_text};
+use cronplan::JobStart;
+use cronplan_forms::{Job, View, frequent_count};
+use serde_json::{Map, Value};
 use std::alloc::{AllocError, Global};
 use std::collections::BTreeMap;
 
@@ -89,56 +91,39 @@ fn count_at(view: View<'_>, counts: &BTreeMap<usize, u64>, place: usize) -> JobC
     }
 }
 
-// How many starts the job at a place has, if it is one of these.
-#[tactic(auto, using(crate::proofs::PlacedJobs::frequent_count_step))]
-fn frequent_count(frequent: &[Frequent], place: usize) -> Option<u64>
-    ensures { result ≡ frequent_count frequent.now place }
-{
-    for job in frequent {
-        if job.job == place {
-            return Some(job.starts);
-        }
-    }
-    None
-}
-
 fn job_object(alloc: Global, job: Job<'_>, count: JobCount) -> Result<Value, AllocError>
     ensures { IfOk result (λ v. data_of v ≡ job_object job.entry count.starts count.is_frequent) }
 {
-    match plain_object(alloc, job, count)? {
-        Value::Object(mut members) => {
-            put_user(alloc, &mut members, job.user)?;
-            Ok(Value::Object(members))
-        }
-        other => Ok(other),
-    }
+    let mut members = own_members(alloc, job, count)?;
+    put_user(alloc, &mut members, job.user)?;
+    Ok(Value::Object(members))
 }
 
-// The object without the user.
-fn plain_object(alloc: Global, job: Job<'_>, count: JobCount) -> Result<Value, AllocError>
-    ensures { IfOk result (λ v. data_of v ≡ object (job_members job.entry count.starts count.is_frequent)) }
+// The members of a job without the user.
+fn own_members(
+    alloc: Global,
+    job: Job<'_>,
+    count: JobCount,
+) -> Result<Map<String, Value>, AllocError>
+    ensures { IfOk result (λ members. members_view members.entries ≡ job_members job.entry count.starts count.is_frequent) }
 {
-    let (file, line, times) = (job.file, job.line, job.times);
-    let (title, words) = (job.title, job.words);
-    let (starts, is_frequent) = (count.starts, count.is_frequent);
-    json!(in alloc; {
-        "file": file,
-        "frequent": is_frequent,
-        "line": line,
-        "starts": starts,
-        "times": times,
-        "title": title,
-        "words": words
-    })
+    let mut members = Map::new(alloc);
+    put_text(alloc, &mut members, "file", job.file)?;
+    put_flag(alloc, &mut members, "frequent", count.is_frequent)?;
+    put_count(alloc, &mut members, "line", job.line)?;
+    put_count(alloc, &mut members, "starts", count.starts)?;
+    put_text(alloc, &mut members, "times", job.times)?;
+    put_text(alloc, &mut members, "title", job.title)?;
+    put_text(alloc, &mut members, "words", job.words)?;
+    Ok(members)
 }
 
-// Puts the name of a user at its place, where there is one.
+// Puts the name of a user among members, where there is one.
 fn put_user(alloc: Global, members: &mut Map<String, Value>, user: &str) -> Result<(), AllocError>
-    ensures { OnOk result (members_view members.new.entries ≡ with_user user.now (members_view members.old.entries)) }
+    ensures { OnOk result (members_view members.new.entries ≡ with_optional (codes "user") (user_data user.now) (members_view members.old.entries)) }
 {
     if user.is_empty() {
         return Ok(());
     }
-    let name = Value::try_from_str(alloc, user)?;
-    put(members, alloc, "user", name)
+    put_text(alloc, members, "user", user)
 }

@@ -5,6 +5,7 @@ mod days;
 mod document;
 mod instants;
 mod jobs;
+mod members;
 mod moments;
 mod numbers;
 mod quiet;

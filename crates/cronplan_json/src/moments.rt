@@ -3,32 +3,26 @@ ghost use Rattle.std.specs.Prelude.{◌≡◌, ◌≤ℤ◌, IfOk, List, int_le,
 ghost use Rattle.std.specs.List.{All};
 ghost use Rattle.std.specs.List.Sorted.{IsSorted};
 ghost use Rattle.serde_json.specs.Data.{array};
-ghost use Rattle.serde_json.specs.View.{view, items_of};
-ghost use Rattle.croner_base.specs.TableZone.{table_zone};
+ghost use Rattle.serde_json.specs.View.{view as data_of, items_of, members_view};
 ghost use Rattle.cronplan.specs.Moments.{AreMoments, at_second};
 ghost use Rattle.cronplan.specs.Starts.{start_cmp};
-ghost use Rattle.cronplan_forms.specs.Answers.{IsShownMoment};
-ghost use Rattle.cronplan_json.specs.Objects.{count, counts_of, places_of, moment_object, starts_object};
-ghost use Rattle.cronplan_json.specs.PlanJson.{AreShownMoments};
+ghost use Rattle.cronplan_json.specs.Objects.{count, counts_of, places_of, moment_members, moment_object, starts_object};
+ghost use Rattle.cronplan_json.specs.PlanJson.{AreMomentsOf};
 
-use crate::instants::time_value;
-use croner_base::time::table::ClockTable;
+use crate::instants::{put_shown, put_time};
+use crate::members::{put_count, put_integer};
 use cronplan::{JobStart, Moment, Plan};
-use cronplan_forms::{ClockTime, ShownMoment};
-use serde_json::{Value, json};
+use cronplan_forms::{TimedMoment, View, timed_moments};
+use serde_json::{Map, Value, put};
 use std::alloc::{AllocError, Global};
 
 /// An object for each moment of a plan, the earliest first. The only error is want of memory.
-pub(crate) fn moments_value(
-    alloc: Global,
-    plan: &Plan,
-    table: &ClockTable,
-) -> Result<Value, AllocError>
-    ensures { IfOk result (λ v. (shown : List ShownMoment) × AreShownMoments (table_zone table.now) plan.now shown × (view v ≡ array (items_of (map (moment_object plan.now.starts.items) shown)))) }
+pub(crate) fn moments_value(alloc: Global, view: View<'_>) -> Result<Value, AllocError>
+    ensures { IfOk result (λ v. (timed : List TimedMoment) × AreMomentsOf view.entry timed × (data_of v ≡ array (items_of (map (moment_object view.entry.plan.now.starts.items) timed)))) }
 {
-    let moments = moments_of(alloc, plan)?;
-    let shown = shown_moments(alloc, table, moments.as_slice())?;
-    let items = moment_items(alloc, plan.starts.as_slice(), shown.as_slice())?;
+    let moments = moments_of(alloc, view.plan)?;
+    let timed = timed_moments(alloc, view, moments.as_slice())?;
+    let items = moment_items(alloc, view.plan.starts.as_slice(), timed.as_slice())?;
     Ok(Value::Array(items))
 }
 
@@ -41,39 +35,13 @@ fn moments_of(alloc: Global, plan: &Plan) -> Result<Vec<Moment>, AllocError>
     Ok(moments)
 }
 
-// What the clock of a table shows at moments.
-fn shown_moments(
-    alloc: Global,
-    table: &ClockTable,
-    moments: &[Moment],
-) -> Result<Vec<ShownMoment>, AllocError>
-    ensures moments { IfOk result (λ shown. map (λ s. s.moment) shown.items ≡ moments.now) }
-    ensures shown { IfOk result (λ shown. All (IsShownMoment (table_zone table.now)) shown.items) }
-{
-    let mut shown = Vec::new(alloc);
-    for moment in moments {
-        shown.push(shown_moment(table, *moment))?;
-    }
-    Ok(shown)
-}
-
-fn shown_moment(table: &ClockTable, moment: Moment) -> ShownMoment
-    ensures moment { result.moment ≡ moment }
-    ensures shown { IsShownMoment (table_zone table.now) result }
-{
-    ShownMoment {
-        moment,
-        at: ClockTime::shown_at(table, moment.second),
-    }
-}
-
 fn moment_items(
     alloc: Global,
     starts: &[JobStart],
-    moments: &[ShownMoment],
+    moments: &[TimedMoment],
 ) -> Result<Vec<Value>, AllocError>
     requires { IsSorted start_cmp starts.now }
-    ensures { IfOk result (λ items. map view items.items ≡ map (moment_object starts.now) moments.now) }
+    ensures { IfOk result (λ items. map data_of items.items ≡ map (moment_object starts.now) moments.now) }
 {
     let mut items = Vec::new(alloc);
     for moment in moments {
@@ -124,32 +92,45 @@ fn starts_up_to(starts: &[JobStart], second: i64) -> &[JobStart]
 fn moment_object(
     alloc: Global,
     starts_then: &[JobStart],
-    moment: &ShownMoment,
+    moment: &TimedMoment,
 ) -> Result<Value, AllocError>
-    ensures { IfOk result (λ v. view v ≡ starts_object starts_then.now moment.now) }
+    ensures { IfOk result (λ v. data_of v ≡ starts_object starts_then.now moment.now) }
 {
-    let (offset, second) = (moment.at.ahead.seconds, moment.moment.second);
-    let starts = moment.moment.starts;
-    json!(in alloc; {
-        "counts": counts_value(alloc, starts_then)?,
-        "jobs": places_value(alloc, starts_then)?,
-        "offset": offset,
-        "second": second,
-        "starts": starts,
-        "time": time_value(alloc, &moment.at)?
-    })
+    let mut members = own_members(alloc, starts_then, moment)?;
+    put_shown(alloc, &mut members, &moment.time.beside)?;
+    Ok(Value::Object(members))
+}
+
+// Its members on the plan's own clock.
+fn own_members(
+    alloc: Global,
+    starts_then: &[JobStart],
+    moment: &TimedMoment,
+) -> Result<Map<String, Value>, AllocError>
+    ensures { IfOk result (λ members. members_view members.entries ≡ moment_members starts_then.now moment.now) }
+{
+    let mut members = Map::new(alloc);
+    let counts = counts_value(alloc, starts_then)?;
+    put(&mut members, alloc, "counts", counts)?;
+    let places = places_value(alloc, starts_then)?;
+    put(&mut members, alloc, "jobs", places)?;
+    put_integer(alloc, &mut members, "offset", moment.time.own.ahead.seconds)?;
+    put_integer(alloc, &mut members, "second", moment.moment.second)?;
+    put_count(alloc, &mut members, "starts", moment.moment.starts)?;
+    put_time(alloc, &mut members, &moment.time.own)?;
+    Ok(members)
 }
 
 // How many times each job is started.
 fn counts_value(alloc: Global, starts: &[JobStart]) -> Result<Value, AllocError>
-    ensures { IfOk result (λ v. view v ≡ counts_of starts.now) }
+    ensures { IfOk result (λ v. data_of v ≡ counts_of starts.now) }
 {
     let items = count_items(alloc, starts)?;
     Ok(Value::Array(items))
 }
 
 fn count_items(alloc: Global, starts: &[JobStart]) -> Result<Vec<Value>, AllocError>
-    ensures { IfOk result (λ items. map view items.items ≡ map (λ s. count s.count) starts.now) }
+    ensures { IfOk result (λ items. map data_of items.items ≡ map (λ s. count s.count) starts.now) }
 {
     let mut items = Vec::new(alloc);
     for start in starts {
@@ -160,14 +141,14 @@ fn count_items(alloc: Global, starts: &[JobStart]) -> Result<Vec<Value>, AllocEr
 
 // The places of the jobs.
 fn places_value(alloc: Global, starts: &[JobStart]) -> Result<Value, AllocError>
-    ensures { IfOk result (λ v. view v ≡ places_of starts.now) }
+    ensures { IfOk result (λ v. data_of v ≡ places_of starts.now) }
 {
     let items = place_items(alloc, starts)?;
     Ok(Value::Array(items))
 }
 
 fn place_items(alloc: Global, starts: &[JobStart]) -> Result<Vec<Value>, AllocError>
-    ensures { IfOk result (λ items. map view items.items ≡ map (λ s. count s.job) starts.now) }
+    ensures { IfOk result (λ items. map data_of items.items ≡ map (λ s. count s.job) starts.now) }
 {
     let mut items = Vec::new(alloc);
     for start in starts {

@@ -11,15 +11,16 @@ use Rattle.cronplan.specs.declared.windows.Bound.{Bound}
 use Rattle.cronplan.specs.declared.windows.Bound.TheVariants as bounds
 use Rattle.cronplan.specs.declared.windows.Window.{Window}
 use Rattle.cronplan_forms.specs.Escapes.{escaped_text}
+use Rattle.cronplan_forms.specs.Frequents.{frequent_count}
 use Rattle.cronplan_page.specs.declared.pieces.Piece.TheVariants as pieces
 use Rattle.cronplan_page.specs.Fullest.{name_at}
 use Rattle.cronplan_page.specs.Markup.{element, list_of}
 use Rattle.cronplan_page.specs.Pieces.{piece_text}
-use Rattle.cronplan_page.specs.PlanJobs.{frequent_count}
+use Rattle.cronplan_page.specs.Pages.{followed_text, other_text}
 use Rattle.cronplan_page.specs.Quiet.{longer_text}
 use Rattle.cronplan_page.specs.TimeLines.{part_of, count_at}
 use Rattle.cronplan_page.specs.Weeks.{step_of, count_text, cell_text}
-use Rattle.cronplan_page.specs.Words.{many_text, weekday_on}
+use Rattle.cronplan_page.specs.Words.{many_text, name_of_date}
 
 -- a title that would begin an element of its own
 a_forged_element : element pieces.Name (codes "</h1><script>") pieces.NameEnd ≡ codes "<h1>&lt;/h1&gt;&lt;script&gt;</h1>\n"
@@ -31,9 +32,18 @@ counts : (many_text 1 (codes "start") ≡ codes "1 start") × (many_text 0 (code
 unfolding many_text digits
 counts = (refl, refl, refl)
 
--- 20,905 is the date of March 28 of 2027, a Sunday; 0 that of a Thursday, and -1 that of the Wednesday before
-weekdays : (weekday_on (pos 20_905) ≡ 0) × (weekday_on (pos 0) ≡ 4) × (weekday_on (negsuc 0) ≡ 3)
-weekdays = (refl, refl, refl)
+-- a date that the calendar doesn't have
+no_date : name_of_date 4 (negsuc 0) None ≡ codes "day -1"
+unfolding digits
+no_date = refl
+
+-- a second zone whose clock isn't followed
+not_followed : followed_text None (codes "<b>") ≡ codes " (the clock of &lt;b&gt; isn't followed in these days)"
+unfolding element piece_text escaped_text chars encode_utf8
+not_followed = refl
+
+no_second_zone : other_text None ≡ []
+no_second_zone = refl
 
 -- an empty list is what is said in its place
 empty_list : list_of true pieces.NoChange [] ≡ codes "<p>The clock goes on evenly in these days.</p>\n"

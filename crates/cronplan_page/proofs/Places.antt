@@ -1,17 +1,9 @@
 -- Jobs by their places: one more.
-use Rattle.std.proofs.Common.{◌≡◌, ◌∙◌, ◌+◌, ◌<◌, ℕ, suc, List, ◌++◌, length, get_or, drop, ap, sym, add-one, ◌==◌, cond, Some}
+use Rattle.std.proofs.Common.{◌≡◌, ◌∙◌, ◌+◌, ◌<◌, ℕ, suc, List, ◌++◌, length, get_or, drop, ap, sym, add-one}
 use Rattle.std.proofs.lemmas.List.{at_drop_more}
-use Rattle.cronplan.specs.declared.frequent.Frequent.{Frequent}
 use Rattle.cronplan_forms.specs.declared.job.Job.{Job}
 use Rattle.cronplan_page.specs.declared.page.Page.{Page}
-use Rattle.cronplan_page.specs.PlanJobs.{frequent_count, line_at, time_lines_from, job_row, job_rows_from}
-
--- of some jobs, the first decides, or the others
-pub frequent_count_step : (xs : List Frequent) (i : ℕ) (x : Frequent) (place : ℕ) → i < length xs → x ≡ get_or xs i x
-    → frequent_count (drop i xs) place ≡ cond (x.job == place) (Some x.starts) (frequent_count (drop (i + 1) xs) place)
-frequent_count_step xs i x place h is =
-    at_drop_more (λ (ys : List Frequent). frequent_count ys place) xs i x h
-    ∙ ap (λ (y : Frequent). cond (y.job == place) (Some y.starts) (frequent_count (drop (i + 1) xs) place)) (sym is)
+use Rattle.cronplan_page.specs.PlanJobs.{line_at, time_lines_from, job_row, job_rows_from}
 
 -- the line of time of one job more
 pub time_lines_step : (p : Page) (jobs : List Job) (i : ℕ) (x : Job) → i < length jobs → x ≡ get_or jobs i x

@@ -7,12 +7,12 @@ use Rattle.cronplan.specs.declared.frequent.Frequent.{Frequent}
 use Rattle.cronplan.specs.declared.span.Span.{Span}
 use Rattle.cronplan.specs.declared.start.JobStart.{JobStart}
 use Rattle.cronplan_forms.specs.declared.job.Job.{Job}
+use Rattle.cronplan_forms.specs.declared.timed.TimedMoment.{TimedMoment}
+use Rattle.cronplan_forms.specs.declared.timed.TimedWindow.{TimedWindow}
+use Rattle.cronplan_forms.specs.declared.week.WeekDay.{WeekDay}
 use Rattle.cronplan_page.specs.declared.markup.Line.{Line}
-use Rattle.cronplan_page.specs.declared.timed.NamedDay.{NamedDay}
 use Rattle.cronplan_page.specs.declared.timed.TimedChange.{TimedChange}
-use Rattle.cronplan_page.specs.declared.timed.TimedMoment.{TimedMoment}
 use Rattle.cronplan_page.specs.declared.timed.TimedStart.{TimedStart}
-use Rattle.cronplan_page.specs.declared.timed.TimedWindow.{TimedWindow}
 use Rattle.cronplan_page.specs.ClockChanges.{change_line}
 use Rattle.cronplan_page.specs.Fullest.{name_at, moment_line}
 use Rattle.cronplan_page.specs.Markup.{line_text}
@@ -42,7 +42,7 @@ pub names_step : (jobs : List Job) (second : ℤ) (xs : List JobStart) (i : ℕ)
     → flat_map (name_at jobs second) (drop i xs) ≡ name_at jobs second x ++ flat_map (name_at jobs second) (drop (i + 1) xs)
 names_step jobs second xs i x h is = step (name_at jobs second) xs i x h is
 
-pub rows_step : (xs : List NamedDay) (i : ℕ) (x : NamedDay) → i < length xs → x ≡ get_or xs i x
+pub rows_step : (xs : List WeekDay) (i : ℕ) (x : WeekDay) → i < length xs → x ≡ get_or xs i x
     → flat_map row_text (drop i xs) ≡ row_text x ++ flat_map row_text (drop (i + 1) xs)
 rows_step xs i x h is = step row_text xs i x h is
 
@@ -70,7 +70,7 @@ pub next_step : (xs : List TimedStart) (i : ℕ) (x : TimedStart) → i < length
     → flat_map next_line (drop i xs) ≡ next_line x ++ flat_map next_line (drop (i + 1) xs)
 next_step xs i x h is = step next_line xs i x h is
 
-pub days_step : (jobs : List Job) (starts : List TimedStart) (xs : List NamedDay) (i : ℕ) (x : NamedDay) → i < length xs → x ≡ get_or xs i x
+pub days_step : (jobs : List Job) (starts : List TimedStart) (xs : List WeekDay) (i : ℕ) (x : WeekDay) → i < length xs → x ≡ get_or xs i x
     → flat_map (day_text jobs starts) (drop i xs) ≡ day_text jobs starts x ++ flat_map (day_text jobs starts) (drop (i + 1) xs)
 days_step jobs starts xs i x h is = step (day_text jobs starts) xs i x h is
 

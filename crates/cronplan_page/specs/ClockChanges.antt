@@ -5,7 +5,7 @@ use Rattle.cronplan_page.specs.declared.pieces.Piece.TheVariants as pieces
 use Rattle.cronplan_page.specs.declared.timed.TimedChange.{TimedChange}
 use Rattle.cronplan_page.specs.Markup.{list_of}
 use Rattle.cronplan_page.specs.Pieces.{piece_text}
-use Rattle.cronplan_page.specs.Words.{duration_text, time_text}
+use Rattle.cronplan_page.specs.Words.{duration_text, clock_text}
 
 -- by how many seconds the clock is put forward or back
 abbrev pub seconds_moved : TimedChange → ℕ
@@ -17,13 +17,13 @@ fate_text c = if int_lt c.before.ahead.seconds c.shown.ahead.seconds then codes 
 
 -- a change in words: what the clock shows the second before, and what it skips or repeats
 unfoldable pub change_words : TimedChange → List ℕ
-change_words c = codes "follows " ++ (time_text c.before ++ (codes ": " ++ (duration_text (seconds_moved c) ++ fate_text c)))
+change_words c = codes "follows " ++ (clock_text c.before ++ (codes ": " ++ (duration_text (seconds_moved c) ++ fate_text c)))
 
 -- a change
 unfoldable pub change_line : TimedChange → List ℕ
 change_line c =
     piece_text pieces.Item
-    ++ (time_text c.shown ++ (piece_text pieces.ItemRest ++ (change_words c ++ piece_text pieces.ItemEnd)))
+    ++ (clock_text c.shown ++ (piece_text pieces.ItemRest ++ (change_words c ++ piece_text pieces.ItemEnd)))
 
 -- some changes
 unfoldable pub change_lines : List TimedChange → List ℕ

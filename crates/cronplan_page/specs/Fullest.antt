@@ -5,8 +5,8 @@ use Rattle.std.specs.Ordering.{int_eq}
 use Rattle.cronplan.specs.declared.moments.Moment.{Moment}
 use Rattle.cronplan.specs.declared.start.JobStart.{JobStart}
 use Rattle.cronplan_forms.specs.declared.job.Job.{Job}
+use Rattle.cronplan_forms.specs.declared.timed.TimedMoment.{TimedMoment}
 use Rattle.cronplan_page.specs.declared.pieces.Piece.TheVariants as pieces
-use Rattle.cronplan_page.specs.declared.timed.TimedMoment.{TimedMoment}
 use Rattle.cronplan_page.specs.Markup.{list_of}
 use Rattle.cronplan_page.specs.Pieces.{piece_text}
 use Rattle.cronplan_page.specs.Words.{many_text, started_text, time_text}

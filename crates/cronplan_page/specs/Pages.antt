@@ -1,6 +1,8 @@
 -- The page of a plan, in the order of its questions. Source: this crate's documentation.
-use Rattle.std.specs.Prelude.{ℕ, Bool, List, [], ◌∷◌, length, ◌++◌, codes, if◌then◌else◌}
+use Rattle.std.specs.Prelude.{ℕ, Bool, List, [], ◌∷◌, length, ◌++◌, codes, Option, Some, None, option_copied, if◌then◌else◌}
+use Rattle.croner_base.specs.declared.time.table.ClockTable.{ClockTable}
 use Rattle.cronplan.specs.Counts.{count_of}
+use Rattle.cronplan_forms.specs.declared.beside.OtherClock.{OtherClock}
 use Rattle.cronplan_page.specs.declared.markup.Line.{Line}
 use Rattle.cronplan_page.specs.declared.page.Page.{Page}
 use Rattle.cronplan_page.specs.declared.pieces.Piece.TheVariants as pieces
@@ -25,9 +27,22 @@ ignored_text [] = []
 ignored_text (line ∷ lines) =
     piece_text pieces.Bad ++ (section_text pieces.IgnoredHeading (line ∷ lines) pieces.SectionEnd ++ piece_text pieces.SectionEnd)
 
+-- a second zone: that its clock stands after an equals sign, or that it isn't followed
+abbrev pub followed_text : Option ClockTable → List ℕ → List ℕ
+followed_text (Some table) zone = element pieces.AndOn zone pieces.AndOnEnd
+followed_text None zone = element pieces.Unfollowed zone pieces.UnfollowedEnd
+
+abbrev pub other_zone_text : OtherClock → List ℕ
+other_zone_text other = followed_text (option_copied other.table) other.zone.now
+
+-- the same of one that is shown, if one is
+abbrev pub other_text : Option OtherClock → List ℕ
+other_text None = []
+other_text (Some other) = other_zone_text other
+
 -- the span, and whose clock that is
 unfoldable pub span_text : Page → List ℕ
-span_text p = between_text p.first p.end ++ (piece_text pieces.OnClock ++ html p.view.zone.now)
+span_text p = between_text p.first p.end ++ (piece_text pieces.OnClock ++ (html p.view.zone.now ++ other_text p.view.other))
 
 -- how many jobs there are, and how many starts of them are shown
 unfoldable pub counts_text : Page → List ℕ

@@ -1,6 +1,6 @@
 -- The markup of a page, which is the same for each plan. Sources: the HTML standard, section 13.1; Content Security Policy, section 3.3 (the
 -- meta element); SVG 2, sections 5.7 and 10.2; and this crate's documentation.
-use Rattle.std.specs.Prelude.{ℕ, List, codes}
+use Rattle.std.specs.Prelude.{ℕ, List, [], codes}
 use Rattle.cronplan_page.specs.declared.pieces.Piece.{Piece}
 use Rattle.cronplan_page.specs.declared.pieces.Piece.TheVariants as pieces
 
@@ -25,6 +25,10 @@ piece_text pieces.NameEnd = codes "</h1>\n"
 piece_text pieces.Paragraph = codes "<p>"
 piece_text pieces.ParagraphEnd = codes "</p>\n"
 piece_text pieces.OnClock = codes ", on the clock of "
+piece_text pieces.AndOn = codes ", and after = on that of "
+piece_text pieces.AndOnEnd = []
+piece_text pieces.Unfollowed = codes " (the clock of "
+piece_text pieces.UnfollowedEnd = codes " isn't followed in these days)"
 piece_text pieces.Cut = codes "<p><b>It ends there, since a plan keeps no more starts: more was asked for.</b></p>\n"
 piece_text pieces.Bad = codes "<section class=\"bad\">\n"
 piece_text pieces.Section = codes "<section>\n"

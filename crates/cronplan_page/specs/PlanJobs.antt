@@ -5,6 +5,7 @@ use Rattle.std.specs.List.{flat_map}
 use Rattle.cronplan.specs.declared.frequent.Frequent.{Frequent}
 use Rattle.cronplan_forms.specs.declared.job.Job.{Job}
 use Rattle.cronplan_forms.specs.Calendars.{times_text}
+use Rattle.cronplan_forms.specs.Frequents.{frequent_count}
 use Rattle.cronplan_page.specs.declared.about.Warnings.{Warnings}
 use Rattle.cronplan_page.specs.declared.markup.Line.{Line}
 use Rattle.cronplan_page.specs.declared.page.Page.{Page}
@@ -17,11 +18,6 @@ use Rattle.cronplan_page.specs.TimeLines.{count_at, time_line}
 use Rattle.cronplan_page.specs.Words.{title_text, many_text, time_text}
 
 -- ---- jobs that start too often to be shown
-
--- how many starts the job at a place has, if it is one of these
-abbrev pub frequent_count : List Frequent → ℕ → Option ℕ
-frequent_count [] place = None
-frequent_count (f ∷ fs) place = if f.job == place then Some f.starts else frequent_count fs place
 
 -- one of these: its title, and how many starts it has
 unfoldable pub frequent_line : List Job → Frequent → List ℕ
@@ -48,7 +44,7 @@ abbrev pub shown_line : Page → ℕ → Job → Option ℕ → List ℕ
 shown_line p place job (Some starts) = []
 shown_line p place job None = time_line p place job
 
-abbrev pub line_at : Page → ℕ → Job → List ℕ
+unfoldable pub line_at : Page → ℕ → Job → List ℕ
 line_at p place job = shown_line p place job (frequent_count p.view.frequent.now place)
 
 -- those of the jobs from a place on

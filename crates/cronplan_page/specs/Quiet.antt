@@ -1,24 +1,18 @@
 -- The longest windows in which nothing starts. Source: this crate's documentation.
-use Rattle.std.specs.Prelude.{ℕ, ◌==◌, ◌||◌, Bool, true, false, List, length, ◌++◌, codes, [], if◌then◌else◌}
+use Rattle.std.specs.Prelude.{ℕ, ◌==◌, List, length, ◌++◌, codes, [], if◌then◌else◌}
 use Rattle.std.specs.List.{flat_map}
-use Rattle.cronplan.specs.declared.windows.Bound.{Bound}
-use Rattle.cronplan.specs.declared.windows.Bound.TheVariants as bounds
 use Rattle.cronplan.specs.declared.windows.Window.{Window}
 use Rattle.cronplan.specs.Windows.{seconds_in}
+use Rattle.cronplan_forms.specs.declared.timed.TimedWindow.{TimedWindow}
+use Rattle.cronplan_forms.specs.Answers.{is_at_edge}
 use Rattle.cronplan_page.specs.declared.pieces.Piece.TheVariants as pieces
-use Rattle.cronplan_page.specs.declared.timed.TimedWindow.{TimedWindow}
 use Rattle.cronplan_page.specs.Markup.{list_of}
 use Rattle.cronplan_page.specs.Pieces.{piece_text}
 use Rattle.cronplan_page.specs.Words.{between_text, duration_text}
 
--- a side of a window is a side of the span
-abbrev pub is_edge : Bound → Bool
-is_edge bounds.Start = false
-is_edge bounds.Span = true
-
--- the window may be longer then
+-- a window may be longer that ends or begins with the span
 abbrev pub longer_text : Window → List ℕ
-longer_text w = if is_edge w.from.bound || is_edge w.until.bound then codes ", or longer" else []
+longer_text w = if is_at_edge w then codes ", or longer" else []
 
 -- how long it is
 unfoldable pub length_text : Window → List ℕ

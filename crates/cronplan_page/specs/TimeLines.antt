@@ -13,7 +13,7 @@ use Rattle.cronplan_page.specs.declared.timed.TimedStart.{TimedStart}
 use Rattle.cronplan_page.specs.ClockChanges.{change_words}
 use Rattle.cronplan_page.specs.Markup.{html, element}
 use Rattle.cronplan_page.specs.Pieces.{piece_text}
-use Rattle.cronplan_page.specs.Words.{many_text, time_text}
+use Rattle.cronplan_page.specs.Words.{clock_text, many_text, time_text}
 
 -- a job of more starts than these is shown as a band
 abbrev pub most_marks : ℕ
@@ -61,7 +61,7 @@ starts_text span place count starts = if nat_lt most_marks count then band_text 
 
 -- a change of the clock: a mark with what that is
 unfoldable pub change_title : TimedChange → List ℕ
-change_title c = time_text c.shown ++ (codes " " ++ change_words c)
+change_title c = clock_text c.shown ++ (codes " " ++ change_words c)
 
 unfoldable pub change_mark : Span → TimedChange → List ℕ
 change_mark span c =

@@ -6,9 +6,9 @@ use Rattle.croner_base.specs.CivilText.{two_places}
 use Rattle.cronplan.specs.declared.days.Day.{Day}
 use Rattle.cronplan.specs.declared.days.HourCell.{HourCell}
 use Rattle.cronplan.specs.declared.moments.Moment.{Moment}
+use Rattle.cronplan_forms.specs.declared.week.WeekDay.{WeekDay}
 use Rattle.cronplan_forms.specs.Clocks.{second_of_day}
 use Rattle.cronplan_page.specs.declared.pieces.Piece.TheVariants as pieces
-use Rattle.cronplan_page.specs.declared.timed.NamedDay.{NamedDay}
 use Rattle.cronplan_page.specs.Markup.{number_text}
 use Rattle.cronplan_page.specs.Pieces.{piece_text}
 use Rattle.cronplan_page.specs.Words.{date_name}
@@ -63,15 +63,15 @@ unfoldable pub day_cells : Day → List ℕ
 day_cells day = cells_text day.hours.items ++ (number_text day.starts ++ (fullest_cell day.fullest ++ piece_text pieces.RowEnd))
 
 -- a day: its name, and those
-unfoldable pub row_text : NamedDay → List ℕ
-row_text d = piece_text pieces.Row ++ (date_name d ++ (piece_text pieces.RowName ++ day_cells d.day.now))
+unfoldable pub row_text : WeekDay → List ℕ
+row_text d = piece_text pieces.Row ++ (date_name d.name ++ (piece_text pieces.RowName ++ day_cells d.day.now))
 
 -- the rows of some days
-unfoldable pub rows_text : List NamedDay → List ℕ
+unfoldable pub rows_text : List WeekDay → List ℕ
 rows_text days = flat_map row_text days
 
 -- the table of some days
-unfoldable pub week_text : List NamedDay → List ℕ
+unfoldable pub week_text : List WeekDay → List ℕ
 week_text days =
     piece_text pieces.WeekHeading
     ++ (piece_text pieces.WeekTable ++ (rows_text days ++ (piece_text pieces.TableEnd ++ piece_text pieces.WeekKey)))

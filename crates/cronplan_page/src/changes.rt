@@ -5,7 +5,7 @@ ghost use Rattle.cronplan_page.specs.ClockChanges.{seconds_moved, fate_text, cha
 use crate::markup::{push_list_begin, push_list_end};
 use crate::pieces::{Piece, push_piece};
 use crate::timed::TimedChange;
-use crate::words::{push_duration, push_time};
+use crate::words::{push_clock, push_duration};
 use std::alloc::AllocError;
 
 /// Appends the list of some changes to the text of a page. The only error is lack of memory; the text's end is then unspecified.
@@ -33,7 +33,7 @@ fn push_change(out: &mut String, change: TimedChange) -> Result<(), AllocError>
     ensures { OnOk result (string_bytes out.new ≡ string_bytes out.old ++ change_line change) }
 {
     push_piece(out, Piece::Item)?;
-    push_time(out, change.shown)?;
+    push_clock(out, change.shown)?;
     push_piece(out, Piece::ItemRest)?;
     push_change_words(out, change)?;
     push_piece(out, Piece::ItemEnd)
@@ -45,7 +45,7 @@ pub(crate) fn push_change_words(out: &mut String, change: TimedChange) -> Result
     ensures { OnOk result (string_bytes out.new ≡ string_bytes out.old ++ change_words change) }
 {
     out.push_str("follows ")?;
-    push_time(out, change.before)?;
+    push_clock(out, change.before)?;
     out.push_str(": ")?;
     push_duration(out, seconds_moved(change))?;
     out.push_str(fate_text(change))

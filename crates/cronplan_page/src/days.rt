@@ -1,13 +1,14 @@
 //! The starts of a plan, day by day.
 ghost use Rattle.std.specs.Prelude.{◌≡◌, ◌++◌, OnOk, string_bytes};
 ghost use Rattle.cronplan.specs.Counts.{date_of};
-ghost use Rattle.cronplan_page.specs.PlanDays.{start_line, start_on, starts_on, day_head, day_text, day_texts, days_text};
+ghost use Rattle.cronplan_page.specs.PlanDays.{start_line, start_on, starts_on, day_head, day_list, day_text, day_texts, days_text};
 
 use crate::markup::{push_list_begin, push_list_end};
 use crate::pieces::{Piece, push_piece};
-use crate::timed::{NamedDay, TimedStart};
+use crate::timed::TimedStart;
 use crate::words::{push_date_name, push_many, push_started, push_time};
-use cronplan_forms::Job;
+use cronplan::Day;
+use cronplan_forms::{Job, WeekDay};
 use std::alloc::AllocError;
 
 const SECONDS_PER_DAY: i64 = 86_400;
@@ -18,7 +19,7 @@ pub(crate) fn push_days(
     out: &mut String,
     jobs: &[Job<'_>],
     starts: &[TimedStart],
-    days: &[NamedDay<'_>],
+    days: &[WeekDay<'_>],
 ) -> Result<(), AllocError>
     ensures { OnOk result (string_bytes out.new ≡ string_bytes out.old ++ days_text jobs.now starts.now days.now) }
 {
@@ -31,7 +32,7 @@ fn push_each(
     out: &mut String,
     jobs: &[Job<'_>],
     starts: &[TimedStart],
-    days: &[NamedDay<'_>],
+    days: &[WeekDay<'_>],
 ) -> Result<(), AllocError>
     ensures { OnOk result (string_bytes out.new ≡ string_bytes out.old ++ day_texts jobs.now starts.now days.now) }
 {
@@ -41,30 +42,43 @@ fn push_each(
     Ok(())
 }
 
-#[tactic(auto, unfolding(crate::specs::PlanDays::day_text, crate::specs::Markup::list_of))]
+#[tactic(auto, unfolding(crate::specs::PlanDays::day_text))]
 fn push_day(
     out: &mut String,
     jobs: &[Job<'_>],
     starts: &[TimedStart],
-    day: NamedDay<'_>,
+    day: WeekDay<'_>,
 ) -> Result<(), AllocError>
     ensures { OnOk result (string_bytes out.new ≡ string_bytes out.old ++ day_text jobs.now starts.now day.entry) }
 {
-    let is_empty = day.day.starts == 0;
     push_day_head(out, day)?;
-    push_list_begin(out, is_empty, Piece::NoMoment)?;
-    push_starts_on(out, jobs, day.day.date, starts)?;
-    push_list_end(out, is_empty)?;
+    push_day_list(out, jobs, starts, day.day)?;
     push_piece(out, Piece::DayEnd)
+}
+
+// Appends the starts on a day to a text.
+#[tactic(auto, unfolding(crate::specs::PlanDays::day_list, crate::specs::Markup::list_of))]
+fn push_day_list(
+    out: &mut String,
+    jobs: &[Job<'_>],
+    starts: &[TimedStart],
+    day: &Day,
+) -> Result<(), AllocError>
+    ensures { OnOk result (string_bytes out.new ≡ string_bytes out.old ++ day_list jobs.now starts.now day.now) }
+{
+    let is_empty = day.starts == 0;
+    push_list_begin(out, is_empty, Piece::NoMoment)?;
+    push_starts_on(out, jobs, day.date, starts)?;
+    push_list_end(out, is_empty)
 }
 
 // Appends the name of a day to a text, and how many starts it has.
 #[tactic(auto, unfolding(crate::specs::PlanDays::day_head))]
-fn push_day_head(out: &mut String, day: NamedDay<'_>) -> Result<(), AllocError>
+fn push_day_head(out: &mut String, day: WeekDay<'_>) -> Result<(), AllocError>
     ensures { OnOk result (string_bytes out.new ≡ string_bytes out.old ++ day_head day.entry) }
 {
     push_piece(out, Piece::Day)?;
-    push_date_name(out, day)?;
+    push_date_name(out, day.name)?;
     out.push_str(", ")?;
     push_many(out, day.day.starts, "start")?;
     push_piece(out, Piece::DayName)

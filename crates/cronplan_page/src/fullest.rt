@@ -4,10 +4,9 @@ ghost use Rattle.cronplan_page.specs.Fullest.{name_at, names_at, moment_words, m
 
 use crate::markup::{push_list_begin, push_list_end};
 use crate::pieces::{Piece, push_piece};
-use crate::timed::TimedMoment;
 use crate::words::{push_many, push_started, push_time};
 use cronplan::{JobStart, Moment};
-use cronplan_forms::Job;
+use cronplan_forms::{Job, TimedMoment};
 use std::alloc::AllocError;
 
 /// Appends the section of some moments of these starts to the text of a page. The only error is lack of memory; the text's end is then

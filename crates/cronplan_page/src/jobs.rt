@@ -1,9 +1,10 @@
 //! The jobs of a plan: those that start too often to be shown, the timelines of the others, and a table of all.
 ghost use Rattle.std.specs.Prelude.{◌≡◌, ◌==◌, ◌++◌, IfOk, OnOk, string_bytes, filter, take};
+ghost use Rattle.cronplan_forms.specs.Frequents.{frequent_count};
 ghost use Rattle.cronplan_page.specs.Markup.{number_text};
 ghost use Rattle.cronplan_page.specs.Pieces.{piece_text};
 ghost use Rattle.cronplan_page.specs.TimeLines.{count_at};
-ghost use Rattle.cronplan_page.specs.PlanJobs.{frequent_count, frequent_line, frequent_lines, frequent_text, line_at, lines_section, most_next, next_starts, next_line, next_lines, next_cell, starts_cells, warnings_at, list_cell, place_cell, job_words, job_row, table_text, time_lines_from, job_rows_from};
+ghost use Rattle.cronplan_page.specs.PlanJobs.{frequent_line, frequent_lines, frequent_text, line_at, lines_section, most_next, next_starts, next_line, next_lines, next_cell, starts_cells, warnings_at, list_cell, place_cell, job_words, job_row, table_text, time_lines_from, job_rows_from};
 ghost use Rattle.cronplan_page.specs.declared.timed.TimedStart.{TimedStart};
 
 use crate::about::Warnings;
@@ -16,7 +17,7 @@ use crate::time_lines::{count_at, push_time_line};
 use crate::timed::TimedStart;
 use crate::words::{push_many, push_time, push_times, push_title};
 use cronplan::Frequent;
-use cronplan_forms::Job;
+use cronplan_forms::{Job, frequent_count};
 use std::alloc::{AllocError, Global};
 
 /// The most starts of a job that the table lists.
@@ -70,19 +71,6 @@ fn push_frequent_line(out: &mut String, jobs: &[Job<'_>], job: Frequent) -> Resu
     push_piece(out, Piece::ItemEnd)
 }
 
-// How many starts the job at a place has, if it is one of these.
-#[tactic(auto, using(crate::proofs::Places::frequent_count_step))]
-fn frequent_count(frequent: &[Frequent], place: usize) -> Option<u64>
-    ensures { result ≡ frequent_count frequent.now place }
-{
-    for job in frequent {
-        if job.job == place {
-            return Some(job.starts);
-        }
-    }
-    None
-}
-
 // ---- lines of time
 
 /// Appends the timelines of the shown jobs to the text of a page. The only error is lack of memory; the text's end is then unspecified.
@@ -105,6 +93,7 @@ fn push_time_lines(out: &mut String, page: Page<'_>, jobs: &[Job<'_>]) -> Result
 }
 
 // Appends the timeline of the job at a place to a text, if the job is shown.
+#[tactic(auto, unfolding(crate::specs::PlanJobs::line_at))]
 fn push_line_at(
     out: &mut String,
     page: Page<'_>,

@@ -21,4 +21,4 @@ pub use about::{About, Warnings};
 pub use markup::Line;
 pub use page::{Page, page_text};
 pub use plan_page::page_of;
-pub use timed::{NamedDay, TimedChange, TimedMoment, TimedStart, TimedWindow};
+pub use timed::{TimedChange, TimedStart};

@@ -1,7 +1,7 @@
 //! The text of a page.
 ghost use Rattle.std.specs.Prelude.{◌≡◌, ◌≤◌, ◌++◌, IfOk, OnOk, length, string_bytes};
 ghost use Rattle.cronplan.specs.Counts.{count_of};
-ghost use Rattle.cronplan_page.specs.Pages.{head_text, ignored_text, span_text, counts_text, cut_text, about_text, top_text, answers_text, plan_text, page_text};
+ghost use Rattle.cronplan_page.specs.Pages.{head_text, ignored_text, other_text, other_zone_text, span_text, counts_text, cut_text, about_text, top_text, answers_text, plan_text, page_text};
 
 use crate::about::About;
 use crate::changes::push_changes;
@@ -11,11 +11,11 @@ use crate::jobs::{push_frequent, push_lines_section, push_table};
 use crate::markup::{Line, push_element, push_html, push_section};
 use crate::pieces::{Piece, push_piece};
 use crate::quiet::push_quiet;
-use crate::timed::{NamedDay, TimedChange, TimedMoment, TimedStart, TimedWindow};
+use crate::timed::{TimedChange, TimedStart};
 use crate::week::push_week;
 use crate::words::{push_between, push_many};
 use cronplan::{JobStart, Plan};
-use cronplan_forms::{ClockTime, View};
+use cronplan_forms::{OtherClock, ShownTime, TimedMoment, TimedWindow, View, WeekDay};
 use std::alloc::{AllocError, Global};
 
 /// What a page shows of a plan, in the order of the page. Texts are shown as they are, except for the escapes of a page.
@@ -24,8 +24,8 @@ pub struct Page<'p> {
     pub view: View<'p>,
     pub about: About<'p>,
     /// The first second of the plan's span, and its end.
-    pub first: ClockTime,
-    pub end: ClockTime,
+    pub first: ShownTime,
+    pub end: ShownTime,
     /// The longest windows in which nothing starts.
     pub quiet: &'p [TimedWindow],
     /// The fullest moments.
@@ -33,7 +33,7 @@ pub struct Page<'p> {
     /// All starts of the plan.
     pub starts: &'p [TimedStart],
     /// The dates of the plan, and the changes of the clock there.
-    pub days: &'p [NamedDay<'p>],
+    pub days: &'p [WeekDay<'p>],
     pub changes: &'p [TimedChange],
 }
 
@@ -93,7 +93,27 @@ fn push_span(out: &mut String, page: Page<'_>) -> Result<(), AllocError>
 {
     push_between(out, page.first, page.end)?;
     push_piece(out, Piece::OnClock)?;
-    push_html(out, page.view.zone)
+    push_html(out, page.view.zone)?;
+    push_other(out, page.view.other)
+}
+
+// Appends the second zone to a text, if one is shown.
+fn push_other(out: &mut String, other: Option<OtherClock<'_>>) -> Result<(), AllocError>
+    ensures { OnOk result (string_bytes out.new ≡ string_bytes out.old ++ other_text other.entry) }
+{
+    match other {
+        Some(other) => push_other_zone(out, other),
+        None => Ok(()),
+    }
+}
+
+fn push_other_zone(out: &mut String, other: OtherClock<'_>) -> Result<(), AllocError>
+    ensures { OnOk result (string_bytes out.new ≡ string_bytes out.old ++ other_zone_text other.entry) }
+{
+    match other.table {
+        Some(_) => push_element(out, Piece::AndOn, other.zone, Piece::AndOnEnd),
+        None => push_element(out, Piece::Unfollowed, other.zone, Piece::UnfollowedEnd),
+    }
 }
 
 // Appends to a text how many jobs there are, and how many starts of them are shown.

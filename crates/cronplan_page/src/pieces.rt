@@ -23,6 +23,11 @@ pub(crate) enum Piece {
     ParagraphEnd,
     // Between a span and a zone.
     OnClock,
+    // Around a second zone whose clock is shown, and one whose clock isn't followed.
+    AndOn,
+    AndOnEnd,
+    Unfollowed,
+    UnfollowedEnd,
     // What is said if a plan ends earlier than was asked for.
     Cut,
     // A section that is marked.
@@ -111,6 +116,10 @@ fn text_of_piece(piece: Piece) -> &'static str
         Piece::Paragraph => "<p>",
         Piece::ParagraphEnd => "</p>\n",
         Piece::OnClock => ", on the clock of ",
+        Piece::AndOn => ", and after = on that of ",
+        Piece::AndOnEnd => "",
+        Piece::Unfollowed => " (the clock of ",
+        Piece::UnfollowedEnd => " isn't followed in these days)",
         Piece::Cut =>
             "<p><b>It ends there, since a plan keeps no more starts: more was asked for.</b></p>\n",
         Piece::Bad => "<section class=\"bad\">\n",

@@ -7,13 +7,11 @@ ghost use Rattle.cronplan_page.specs.Timed.{AreTimedStarts, AreTimedChanges};
 
 use crate::about::About;
 use crate::page::{Page, page_text};
-use crate::timed::{
-    TimedChange, TimedMoment, TimedStart, TimedWindow, named_days, timed_changes, timed_moments,
-    timed_starts, timed_windows,
+use crate::timed::{TimedChange, TimedStart, timed_changes, timed_starts};
+use cronplan::{Days, Window};
+use cronplan_forms::{
+    ShownTime, TimedMoment, TimedWindow, View, named_days, timed_moments, timed_windows,
 };
-use croner_base::time::table::ClockTable;
-use cronplan::{Days, Plan, Window};
-use cronplan_forms::{ClockTime, View};
 use std::alloc::{AllocError, Global};
 
 /// The most windows that are shown: the longest ones.
@@ -35,8 +33,8 @@ struct Told {
 /// The page of a plan: HTML in UTF-8, without a script, which loads nothing.
 ///
 /// It shows the longest windows in which nothing starts, the fullest moments, and how many starts each hour of each date has. It also
-/// shows the changes of the clock, the starts of each job and each date, and what `about` says of each job. No text of a job can end its
-/// element early. The only error is lack of memory.
+/// shows the changes of the clock, the starts of each job and each date, and what `about` says of each job. Where the clock of a second zone is
+/// shown, what that shows stands after each time. No text of a job can end its element early. The only error is lack of memory.
 ///
 /// Its running time grows with the number of starts times the number of jobs and dates.
 pub fn page_of(alloc: Global, view: View<'_>, about: About<'_>) -> Result<String, AllocError>
@@ -47,8 +45,8 @@ pub fn page_of(alloc: Global, view: View<'_>, about: About<'_>) -> Result<String
     let page = Page {
         view,
         about,
-        first: ClockTime::shown_at(view.table, view.plan.span.first),
-        end: ClockTime::shown_at(view.table, view.plan.span.end),
+        first: ShownTime::at(view, view.plan.span.first),
+        end: ShownTime::at(view, view.plan.span.end),
         quiet: told.quiet.as_slice(),
         fullest: told.fullest.as_slice(),
         starts: told.starts.as_slice(),
@@ -61,19 +59,18 @@ pub fn page_of(alloc: Global, view: View<'_>, about: About<'_>) -> Result<String
 
 // What a page shows of the plan of a view.
 fn told_of(alloc: Global, view: View<'_>) -> Result<Told, AllocError>
-    ensures quiet { IfOk result (λ told. AreLongest (table_zone view.entry.table.now) view.entry.plan.now told.quiet.items) }
-    ensures fullest { IfOk result (λ told. AreFullestOf (table_zone view.entry.table.now) view.entry.plan.now told.fullest.items) }
-    ensures starts { IfOk result (λ told. AreTimedStarts (table_zone view.entry.table.now) view.entry.plan.now.starts.items told.starts.items) }
+    ensures quiet { IfOk result (λ told. AreLongest view.entry told.quiet.items) }
+    ensures fullest { IfOk result (λ told. AreFullestOf view.entry told.fullest.items) }
+    ensures starts { IfOk result (λ told. AreTimedStarts view.entry view.entry.plan.now.starts.items told.starts.items) }
     ensures days { IfOk result (λ told. AreDays (table_zone view.entry.table.now) view.entry.table.now.changes.items view.entry.plan.now.span
         view.entry.plan.now.starts.items told.days.days.items told.days.changes.items) }
     ensures changes { IfOk result (λ told. AreTimedChanges (table_zone view.entry.table.now) told.days.changes.items told.changes.items) }
 {
-    let (plan, table) = (view.plan, view.table);
-    let quiet = longest_windows(alloc, plan, table)?;
-    let fullest = fullest_of(alloc, plan, table)?;
-    let starts = timed_starts(alloc, table, plan.starts.as_slice())?;
-    let days = plan.days(alloc, table)?;
-    let changes = timed_changes(alloc, table, days.changes.as_slice())?;
+    let quiet = longest_windows(alloc, view)?;
+    let fullest = fullest_of(alloc, view)?;
+    let starts = timed_starts(alloc, view, view.plan.starts.as_slice())?;
+    let days = view.plan.days(alloc, view.table)?;
+    let changes = timed_changes(alloc, view.table, days.changes.as_slice())?;
     Ok(Told {
         quiet,
         fullest,
@@ -84,15 +81,11 @@ fn told_of(alloc: Global, view: View<'_>) -> Result<Told, AllocError>
 }
 
 // The longest windows of a plan, as many as are shown.
-fn longest_windows(
-    alloc: Global,
-    plan: &Plan,
-    table: &ClockTable,
-) -> Result<Vec<TimedWindow>, AllocError>
-    ensures { IfOk result (λ quiet. AreLongest (table_zone table.now) plan.now quiet.items) }
+fn longest_windows(alloc: Global, view: View<'_>) -> Result<Vec<TimedWindow>, AllocError>
+    ensures { IfOk result (λ quiet. AreLongest view.entry quiet.items) }
 {
-    let windows = plan.quiet_windows(alloc, 1)?;
-    let quiet = timed_windows(alloc, table, first_windows(windows.as_slice()))?;
+    let windows = view.plan.quiet_windows(alloc, 1)?;
+    let quiet = timed_windows(alloc, view, first_windows(windows.as_slice()))?;
     Ok(quiet)
 }
 
@@ -107,14 +100,10 @@ fn first_windows(windows: &[Window]) -> &[Window]
 }
 
 // The fullest moments of a plan, as many as are shown.
-fn fullest_of(
-    alloc: Global,
-    plan: &Plan,
-    table: &ClockTable,
-) -> Result<Vec<TimedMoment>, AllocError>
-    ensures { IfOk result (λ fullest. AreFullestOf (table_zone table.now) plan.now fullest.items) }
+fn fullest_of(alloc: Global, view: View<'_>) -> Result<Vec<TimedMoment>, AllocError>
+    ensures { IfOk result (λ fullest. AreFullestOf view.entry fullest.items) }
 {
-    let moments = plan.fullest_moments(alloc, MOST_FULLEST)?;
-    let fullest = timed_moments(alloc, table, moments.as_slice())?;
+    let moments = view.plan.fullest_moments(alloc, MOST_FULLEST)?;
+    let fullest = timed_moments(alloc, view, moments.as_slice())?;
     Ok(fullest)
 }

@@ -1,12 +1,12 @@
 //! The longest windows in which nothing starts.
 ghost use Rattle.std.specs.Prelude.{◌≡◌, ◌++◌, OnOk, string_bytes};
-ghost use Rattle.cronplan_page.specs.Quiet.{is_edge, longer_text, length_text, window_line, window_lines, quiet_text};
+ghost use Rattle.cronplan_page.specs.Quiet.{longer_text, length_text, window_line, window_lines, quiet_text};
 
 use crate::markup::{push_list_begin, push_list_end};
 use crate::pieces::{Piece, push_piece};
-use crate::timed::TimedWindow;
 use crate::words::{push_between, push_duration};
-use cronplan::{Bound, Window};
+use cronplan::Window;
+use cronplan_forms::{TimedWindow, is_at_edge};
 use std::alloc::AllocError;
 
 /// Appends the section of some windows to the text of a page. The only error is lack of memory; the text's end is then unspecified.
@@ -54,19 +54,9 @@ fn push_length(out: &mut String, window: Window) -> Result<(), AllocError>
 fn longer_text(window: Window) -> &'static str
     ensures { result.now ≡ longer_text window }
 {
-    if is_edge(window.from.bound) || is_edge(window.until.bound) {
+    if is_at_edge(&window) {
         ", or longer"
     } else {
         ""
-    }
-}
-
-// Whether a side of a window is a side of the span.
-fn is_edge(bound: Bound) -> bool
-    ensures { result ≡ is_edge bound }
-{
-    match bound {
-        Bound::Start => false,
-        Bound::Span => true,
     }
 }

@@ -7,7 +7,7 @@ use crate::markup::{push_element, push_html};
 use crate::page::Page;
 use crate::pieces::{Piece, push_piece};
 use crate::timed::{TimedChange, TimedStart};
-use crate::words::{push_many, push_time, push_times};
+use crate::words::{push_clock, push_many, push_time, push_times};
 use cronplan::{ClockChange, JobStart, Plan, Span};
 use cronplan_forms::Job;
 use std::alloc::AllocError;
@@ -156,7 +156,7 @@ fn push_change_mark(out: &mut String, span: Span, change: TimedChange) -> Result
 fn push_change_title(out: &mut String, change: TimedChange) -> Result<(), AllocError>
     ensures { OnOk result (string_bytes out.new ≡ string_bytes out.old ++ change_title change) }
 {
-    push_time(out, change.shown)?;
+    push_clock(out, change.shown)?;
     out.push_str(" ")?;
     push_change_words(out, change)
 }

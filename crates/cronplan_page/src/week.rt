@@ -5,9 +5,9 @@ ghost use Rattle.cronplan_page.specs.Weeks.{step_of, count_text, class_of, cell_
 
 use crate::markup::push_number;
 use crate::pieces::{Piece, push_piece};
-use crate::timed::NamedDay;
 use crate::words::push_date_name;
 use cronplan::{Day, HourCell, Moment};
+use cronplan_forms::WeekDay;
 use std::alloc::AllocError;
 
 const SECONDS_PER_DAY: i64 = 86_400;
@@ -15,7 +15,7 @@ const SECONDS_PER_DAY: i64 = 86_400;
 /// Appends the table of some days to the text of a page, and what its signs mean. The only error is lack of memory; the text's end is then
 /// unspecified.
 #[tactic(auto, unfolding(crate::specs::Weeks::week_text))]
-pub(crate) fn push_week(out: &mut String, days: &[NamedDay<'_>]) -> Result<(), AllocError>
+pub(crate) fn push_week(out: &mut String, days: &[WeekDay<'_>]) -> Result<(), AllocError>
     ensures { OnOk result (string_bytes out.new ≡ string_bytes out.old ++ week_text days.now) }
 {
     push_piece(out, Piece::WeekHeading)?;
@@ -26,7 +26,7 @@ pub(crate) fn push_week(out: &mut String, days: &[NamedDay<'_>]) -> Result<(), A
 }
 
 #[tactic(auto, using(crate::proofs::Steps::rows_step), unfolding(crate::specs::Weeks::rows_text))]
-fn push_rows(out: &mut String, days: &[NamedDay<'_>]) -> Result<(), AllocError>
+fn push_rows(out: &mut String, days: &[WeekDay<'_>]) -> Result<(), AllocError>
     ensures { OnOk result (string_bytes out.new ≡ string_bytes out.old ++ rows_text days.now) }
 {
     for day in days {
@@ -36,11 +36,11 @@ fn push_rows(out: &mut String, days: &[NamedDay<'_>]) -> Result<(), AllocError>
 }
 
 #[tactic(auto, unfolding(crate::specs::Weeks::row_text))]
-fn push_row(out: &mut String, day: NamedDay<'_>) -> Result<(), AllocError>
+fn push_row(out: &mut String, day: WeekDay<'_>) -> Result<(), AllocError>
     ensures { OnOk result (string_bytes out.new ≡ string_bytes out.old ++ row_text day.entry) }
 {
     push_piece(out, Piece::Row)?;
-    push_date_name(out, day)?;
+    push_date_name(out, day.name)?;
     push_piece(out, Piece::RowName)?;
     push_day_cells(out, day.day)
 }

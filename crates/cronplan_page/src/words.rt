@@ -1,21 +1,16 @@
 //! Counts, titles and dates in words.
 ghost use Rattle.std.specs.Prelude.{◌≡◌, ◌++◌, OnOk, string_bytes, codes};
+ghost use Rattle.std.specs.Fmt.{signed_decimal};
 ghost use Rattle.croner_base.specs.Civil.{weekday_index};
 ghost use Rattle.croner_base.specs.CivilText.{date_text};
 ghost use Rattle.cronplan_forms.specs.Calendars.{times_text};
 ghost use Rattle.cronplan_forms.specs.Clocks.{weekday_text};
-ghost use Rattle.cronplan_page.specs.Words.{plural_of, many_text, time_text, between_text, duration_text, title_text, started_text, weekday_on, name_of_date, date_name};
+ghost use Rattle.cronplan_page.specs.Words.{plural_of, many_text, clock_text, time_text, between_text, duration_text, title_text, started_text, date_name};
 
 use crate::markup::push_html;
-use crate::timed::NamedDay;
-use croner_base::time::{CivilDate, CivilDateTime, Weekday};
-use cronplan_forms::{ClockTime, Job, Lasting, weekday_text};
+use croner_base::time::{CivilDate, Weekday};
+use cronplan_forms::{ClockTime, DateName, Job, Lasting, ShownTime, weekday_text};
 use std::alloc::AllocError;
-
-const DAYS_PER_WEEK: i64 = 7;
-
-/// How many days 1970-01-01 is after a Sunday.
-const FIRST_WEEKDAY: u32 = 4;
 
 /// Appends a number of things to the text of a page, as `5 jobs`. The only error is lack of memory; the text's end is then unspecified.
 #[tactic(auto, unfolding(crate::specs::Words::many_text))]
@@ -33,8 +28,17 @@ fn plural_of(count: u64) -> &'static str
 }
 
 /// Appends to the text of a page what a clock shows, as `Sun 2027-03-28 03:00:00 +02:00`. The only error is lack of memory.
+#[tactic(auto, unfolding(crate::specs::Words::clock_text))]
+pub(crate) fn push_clock(out: &mut String, time: ClockTime) -> Result<(), AllocError>
+    ensures { OnOk result (string_bytes out.new ≡ string_bytes out.old ++ clock_text time) }
+{
+    write!(out, "{time}")
+}
+
+/// Appends to the text of a page what the clocks show: the same, and after an equals sign what that of a second zone shows, if one is
+/// shown. The only error is lack of memory.
 #[tactic(auto, unfolding(crate::specs::Words::time_text))]
-pub(crate) fn push_time(out: &mut String, time: ClockTime) -> Result<(), AllocError>
+pub(crate) fn push_time(out: &mut String, time: ShownTime) -> Result<(), AllocError>
     ensures { OnOk result (string_bytes out.new ≡ string_bytes out.old ++ time_text time) }
 {
     write!(out, "{time}")
@@ -44,8 +48,8 @@ pub(crate) fn push_time(out: &mut String, time: ClockTime) -> Result<(), AllocEr
 #[tactic(auto, unfolding(crate::specs::Words::between_text))]
 pub(crate) fn push_between(
     out: &mut String,
-    from: ClockTime,
-    until: ClockTime,
+    from: ShownTime,
+    until: ShownTime,
 ) -> Result<(), AllocError>
     ensures { OnOk result (string_bytes out.new ≡ string_bytes out.old ++ between_text from until) }
 {
@@ -98,21 +102,21 @@ pub(crate) fn push_times(out: &mut String, count: u32) -> Result<(), AllocError>
     write!(out, " ({count} times)")
 }
 
-/// Appends the name of a date to the text of a page, as `Sun 2027-03-28`. The only error is lack of memory.
-#[tactic(auto, unfolding(crate::specs::Words::date_name))]
-pub(crate) fn push_date_name(out: &mut String, day: NamedDay<'_>) -> Result<(), AllocError>
-    ensures { OnOk result (string_bytes out.new ≡ string_bytes out.old ++ date_name day.entry) }
+/// Appends the name of a date to the text of a page, as `Sun 2027-03-28`; for a date that the calendar doesn't have, its number. The only
+/// error is lack of memory.
+pub(crate) fn push_date_name(out: &mut String, name: DateName) -> Result<(), AllocError>
+    ensures { OnOk result (string_bytes out.new ≡ string_bytes out.old ++ date_name name) }
 {
-    push_name(out, day.day.date, day.civil)
+    match name.civil {
+        Some(civil) => push_date(out, name.weekday, civil.date()),
+        None => push_number_of_date(out, name.date),
+    }
 }
 
-fn push_name(out: &mut String, date: i64, civil: Option<CivilDateTime>) -> Result<(), AllocError>
-    ensures { OnOk result (string_bytes out.new ≡ string_bytes out.old ++ name_of_date date civil) }
+fn push_number_of_date(out: &mut String, date: i64) -> Result<(), AllocError>
+    ensures { OnOk result (string_bytes out.new ≡ string_bytes out.old ++ (codes "day " ++ signed_decimal date)) }
 {
-    match civil {
-        Some(civil) => push_date(out, weekday_on(date), civil.date()),
-        None => write!(out, "day {date}"),
-    }
+    write!(out, "day {date}")
 }
 
 fn push_date(out: &mut String, weekday: Weekday, date: CivilDate) -> Result<(), AllocError>
@@ -120,11 +124,4 @@ fn push_date(out: &mut String, weekday: Weekday, date: CivilDate) -> Result<(), 
 {
     let weekday = weekday_text(weekday);
     write!(out, "{weekday} {date}")
-}
-
-// The weekday of a date.
-fn weekday_on(date: i64) -> Weekday
-    ensures { weekday_index result ≡ weekday_on date }
-{
-    Weekday::from_days_from_sunday(date.rem_euclid(DAYS_PER_WEEK) as u32 + FIRST_WEEKDAY)
 }

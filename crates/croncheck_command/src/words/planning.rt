@@ -209,7 +209,7 @@ fn calendar<'w>(alloc: Global) -> Result<Arg<'w>, AllocError> {
     let arg = flag(alloc, "ics").help(
         "In place of the list: a calendar (RFC 5545), an event for each start, 2000 at most",
     );
-    option_alone(arg)
+    option_alone(arg)?.conflicts_with("show-zone")
 }
 
 fn page<'w>(alloc: Global) -> Result<Arg<'w>, AllocError> {
@@ -228,13 +228,12 @@ fn json<'w>(alloc: Global) -> Result<Arg<'w>, AllocError> {
         .conflicts_with("html")
 }
 
-// An option that stands with none of the answers that are texts, nor with a second zone: a file has the clock of --zone alone.
+// An option that stands with none of the answers that are texts.
 fn option_alone<'w>(arg: Arg<'w>) -> Result<Arg<'w>, AllocError> {
     arg.conflicts_with("runs")?
         .conflicts_with("week")?
         .conflicts_with("month")?
         .conflicts_with("quiet")?
         .conflicts_with("busy")?
-        .conflicts_with("together")?
-        .conflicts_with("show-zone")
+        .conflicts_with("together")
 }

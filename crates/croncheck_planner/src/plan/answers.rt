@@ -2,17 +2,19 @@
 ghost use Rattle.std.specs.Prelude.{◌≡◌, List, IfErr, IfOk, OnOk, string_bytes};
 ghost use Rattle.jiff.specs.ZoneView.{plain_zone};
 ghost use Rattle.croncheck_output.specs.Output.{written_of, WritesApart};
-ghost use Rattle.croncheck_planner.specs.PlanAnswers.{WritesAnswers, WritesLeftOut, WritesOwnAnswers, WritesOtherAnswers, WritesOnZone, WritesAnswersOn, WritesOnClock, AreAnswersOn, AreOwnAnswers, IsLeftOut, IsOtherView, IsClockIn, IsNoClockIn, clock_head, unfollowed_text, IsViewOf, job_planned, job_told, jobs_planned, jobs_told};
+ghost use Rattle.croncheck_planner.specs.PlanAnswers.{WritesAnswers, WritesLeftOut, WritesOwnAnswers, WritesOtherAnswers, WritesOnZone, WritesAnswersOn, WritesOnClock, AreAnswersOn, AreOwnAnswers, IsLeftOut, IsOtherView, IsClockIn, IsNoClockIn, IsFollowedIn, clock_head, unfollowed_text, IsViewOf, job_planned, job_told, jobs_planned, jobs_told};
 
 use crate::plan::Found;
-use crate::plan::list::head_text;
+use crate::plan::dropped::dropped_of;
+use crate::plan::list::{head_text, whose_text};
 use crate::planner::{ClockNames, Planned};
 use croncheck_output::output::Output;
 use croncheck_reading::progress::Terms;
 use croner::errors::CronError;
 use croner::time::table::ClockTable;
 use cronplan::{Plan, Span};
-use cronplan_forms::{Job, Questions, View, answers_text, left_out_text};
+use cronplan_forms::{Dropped, Job, Questions, View, answers_text, left_out_text};
+use cronplan_jobs::Schedule;
 use jiff::tz::TimeZone;
 use std::alloc::{AllocError, Global};
 use std::io;
@@ -23,18 +25,19 @@ use std::io::{ErrorKind, Write};
 pub(crate) fn write_answers<W: Write>(
     terms: &Terms<'_, '_>,
     names: &ClockNames,
-    front: &str,
+    schedules: &[Schedule],
     jobs: &[Planned],
     found: &Found,
     questions: Questions,
     output: &mut Output<W>,
 ) -> io::Result<()>
-    ensures { OnOk result (WritesAnswers terms.now.settings.now terms.now.shared.now names.now front.now jobs.now found.now questions (written_of W.contents output.old) (written_of W.contents output.new)) }
+    ensures { OnOk result (WritesAnswers terms.now.settings.now terms.now.shared.now names.now schedules.now jobs.now found.now questions (written_of W.contents output.old) (written_of W.contents output.new)) }
 {
     let starts = found.plan.starts.as_slice();
-    output.write_apart(head_text(front, starts.is_empty()))?;
+    output.write_apart(head_text(whose_text(schedules), starts.is_empty()))?;
     write_left_out(terms, jobs, found, output)?;
-    write_own_answers(terms, names.zone.as_str(), jobs, found, questions, output)?;
+    let zone = names.zone.as_str();
+    write_own_answers(terms, zone, schedules, jobs, found, questions, output)?;
     write_other_answers(terms, names.other.as_str(), jobs, found, questions, output)
 }
 
@@ -67,29 +70,50 @@ fn text_of_left_out(
 fn write_own_answers<W: Write>(
     terms: &Terms<'_, '_>,
     name: &str,
+    schedules: &[Schedule],
     jobs: &[Planned],
     found: &Found,
     questions: Questions,
     output: &mut Output<W>,
 ) -> io::Result<()>
-    ensures { OnOk result (WritesOwnAnswers terms.now.settings.now name.now jobs.now found.now questions (written_of W.contents output.old) (written_of W.contents output.new)) }
+    ensures { OnOk result (WritesOwnAnswers terms.now.settings.now name.now schedules.now jobs.now found.now questions (written_of W.contents output.old) (written_of W.contents output.new)) }
 {
-    let text = own_answers(terms, name, jobs, found, questions)?;
+    let text = own_answers(terms, name, schedules, jobs, found, questions)?;
     write_on_clock(terms.alloc, name, text.as_str(), output)
 }
 
 fn own_answers(
     terms: &Terms<'_, '_>,
     name: &str,
+    schedules: &[Schedule],
     jobs: &[Planned],
     found: &Found,
     questions: Questions,
 ) -> Result<String, AllocError>
-    ensures { IfOk result (λ text. AreOwnAnswers terms.now.settings.now name.now jobs.now found.now questions (string_bytes text)) }
+    ensures { IfOk result (λ text. AreOwnAnswers terms.now.settings.now name.now schedules.now jobs.now found.now questions (string_bytes text)) }
 {
     let told = jobs_of(terms.alloc, jobs)?;
-    let view = view_of(terms, name, found, told.as_slice());
+    let dropped = dropped_of(terms.alloc, terms.settings, schedules)?;
+    let view = own_view(terms, name, found, told.as_slice(), dropped.as_slice());
     answers_text(terms.alloc, view, questions)
+}
+
+// What was found of these jobs, some of which lack a start where the clock is put forward.
+fn own_view<'v>(
+    terms: &Terms<'v, 'v>,
+    zone: &'v str,
+    found: &'v Found,
+    jobs: &'v [Job<'v>],
+    dropped: &'v [Dropped],
+) -> View<'v>
+    ensures zone { result.zone.now ≡ zone.now }
+    ensures dropped { result.dropped.now ≡ dropped.now }
+    ensures view { (planned : List Planned) → jobs_told jobs.now ≡ jobs_planned planned → IsViewOf terms.now.settings.now planned found.now result }
+{
+    View {
+        dropped,
+        ..view_of(terms, zone, found, jobs)
+    }
 }
 
 // Writes answers under the name of the zone on whose clock they are.
@@ -141,10 +165,27 @@ fn write_answers_in<W: Write>(
 ) -> io::Result<()>
     ensures { OnOk result (WritesOnZone (plain_zone zone.now) name.now jobs.now found.now questions (written_of W.contents output.old) (written_of W.contents output.new)) }
 {
-    match clock_in(alloc, zone, found.plan.span) {
-        Ok(table) => write_answers_on(alloc, &table, name, jobs, found, questions, output),
-        Err(CronError::InvalidTime) => write_unfollowed(alloc, name, output),
+    match followed_in(alloc, zone, found.plan.span) {
+        Ok(Some(table)) => write_answers_on(alloc, &table, name, jobs, found, questions, output),
+        Ok(None) => write_unfollowed(alloc, name, output),
         Err(_) => Err(io::Error::from(ErrorKind::OutOfMemory)),
+    }
+}
+
+/// The clock of a zone in a span, from the second before it. `None` where it isn't calm there.
+///
+/// The only error is `OutOfMemory`.
+pub(crate) fn followed_in(
+    alloc: Global,
+    zone: &TimeZone<'_>,
+    span: Span,
+) -> Result<Option<ClockTable>, CronError>
+    ensures { IfOk result (IsFollowedIn (plain_zone zone.now) span) }
+{
+    match clock_in(alloc, zone, span) {
+        Ok(table) => Ok(Some(table)),
+        Err(CronError::InvalidTime) => Ok(None),
+        Err(error) => Err(error),
     }
 }
 
@@ -208,6 +249,8 @@ fn other_view<'v>(
         jobs,
         frequent,
         is_cut,
+        dropped: &[],
+        other: None,
     }
 }
 
@@ -246,6 +289,8 @@ pub(crate) fn view_of<'v>(
         jobs,
         frequent,
         is_cut,
+        dropped: &[],
+        other: None,
     }
 }
 

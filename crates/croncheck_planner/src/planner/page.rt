@@ -8,7 +8,8 @@ ghost use Rattle.croncheck_planner.specs.Planner.{job_planned, jobs_seen};
 ghost use Rattle.croncheck_shown.specs.Shown.{place_text};
 
 use super::{ClockNames, Planner, is_refused_by_user};
-use crate::plan::answers::{jobs_of, view_of};
+use crate::plan::answers::jobs_of;
+use crate::plan::beside::{other_table, view_beside};
 use crate::plan::title::heading_of;
 use croncheck_findings::findings::{Finding, findings_of};
 use croncheck_output::output::Output;
@@ -54,7 +55,7 @@ impl PagePlanner {
         }
     }
 
-    /// The page of the plan, by this planner's name of the zone, without the jobs that start too often, but for their names and counts: as
+    /// The page of the plan, by this planner's names of the zones, without the jobs that start too often, but for their names and counts: as
     /// `cronplan_page::page_of` has it, with the warnings of each job. These texts are told of what cron ignores.
     ///
     /// The only error is `OutOfMemory`, as that of `answered_plan`.
@@ -64,14 +65,15 @@ impl PagePlanner {
         title: &'p str,
         ignored: &'p [PageLine<'p>],
     ) -> Result<String, CronError>
-        ensures { IfOk result (λ text. IsPage terms.now.settings.now self.now title.now ignored.now (string_bytes text)) }
+        ensures { IfOk result (λ text. IsPage terms.now.settings.now terms.now.shared.now self.now title.now ignored.now (string_bytes text)) }
     {
         let planner = &self.planner;
         let found = planner.found_starts(terms)?;
         let told = jobs_of(terms.alloc, planner.jobs.as_slice())?;
         let lines = lines_of(terms.alloc, self.found.as_slice())?;
         let warned = warnings_of(terms.alloc, lines.as_slice())?;
-        let view = view_of(terms, planner.names.zone.as_str(), &found, told.as_slice());
+        let table = other_table(terms.alloc, terms.shared, found.plan.span)?;
+        let view = view_beside(terms, &planner.names, &found, told.as_slice(), table.as_ref());
         let warnings = warned.as_slice();
         let about = About {
             title,

@@ -18,7 +18,7 @@ const HOURS_PER_DAY: usize = 24;
 const SECONDS_PER_HOUR: u64 = 3_600;
 
 /// A moment of a plan, and what the clock shows then.
-#[derive(Debug, Clone, Copy)]
+#[derive(Clone, Copy)]
 pub struct ShownMoment {
     pub moment: Moment,
     pub at: ClockTime,
@@ -66,8 +66,8 @@ fn shown_moment(table: &ClockTable, moment: Moment) -> ShownMoment
     }
 }
 
-// How many starts each hour of the day has in a plan.
-fn hour_counts(alloc: Global, plan: &Plan) -> Result<Vec<u64>, AllocError>
+/// How many starts a plan has in each hour of the day, on all its dates together. The only error is lack of memory.
+pub fn hour_counts(alloc: Global, plan: &Plan) -> Result<Vec<u64>, AllocError>
     ensures { IfOk result (λ hours. AreHourCounts plan.now.starts.items hours.items) }
 {
     let counts = plan.counts(alloc, Unit::HourOfDay)?;
@@ -148,7 +148,7 @@ impl fmt::Display for ShownMoment {
 }
 
 /// A number of starts: `1 start`, `5 starts`.
-#[derive(Debug, Clone, Copy)]
+#[derive(Clone, Copy)]
 pub(crate) struct Starts {
     pub count: u64,
 }

@@ -1,6 +1,6 @@
 //! What a plan leaves out.
 ghost use Rattle.std.specs.Prelude.{◌≡◌, ◌++◌, IfOk, OnOk, string_bytes};
-ghost use Rattle.cronplan_forms.specs.Answers.{titles_of, title_at, left_out_line, left_out_lines, left_out_name, left_out_title, quoted_title, starts_line, cut_line, left_out_text};
+ghost use Rattle.cronplan_forms.specs.Answers.{titles_of, title_at, job_name, left_out_line, left_out_lines, quoted_title, starts_line, cut_line, left_out_text};
 
 use crate::answers::busy::Starts;
 use crate::answers::together::push_label;
@@ -41,30 +41,22 @@ fn push_frequent(
 fn push_line(text: &mut String, jobs: &[Job<'_>], job: Frequent) -> Result<(), AllocError>
     ensures { OnOk result (string_bytes text.new ≡ string_bytes text.old ++ left_out_line jobs.now job) }
 {
-    push_name(text, jobs, job.job)?;
+    text.push_str("left out, since it starts too often: ")?;
+    push_job_name(text, jobs, job.job)?;
     push_starts(text, job.starts)
 }
 
-// Appends to a text which job is left out: that at a place.
-fn push_name(text: &mut String, jobs: &[Job<'_>], place: usize) -> Result<(), AllocError>
-    ensures { OnOk result (string_bytes text.new ≡ string_bytes text.old ++ left_out_name jobs.now place) }
-{
-    push_titled(text, jobs, place, title_at(jobs, place))
-}
-
-// The same of a job with a title.
-#[tactic(auto, unfolding(crate::specs::Answers::left_out_title))]
-fn push_titled(
+/// Appends the file and line of the job at a place to a text, and its title. The only error is lack of memory.
+#[tactic(auto, unfolding(crate::specs::Answers::job_name))]
+pub(crate) fn push_job_name(
     text: &mut String,
     jobs: &[Job<'_>],
     place: usize,
-    title: &str,
 ) -> Result<(), AllocError>
-    ensures { OnOk result (string_bytes text.new ≡ string_bytes text.old ++ left_out_title jobs.now place title.now) }
+    ensures { OnOk result (string_bytes text.new ≡ string_bytes text.old ++ job_name jobs.now place) }
 {
-    text.push_str("left out, since it starts too often: ")?;
     push_label(text, jobs, place)?;
-    push_title(text, title)
+    push_title(text, title_at(jobs, place))
 }
 
 #[tactic(auto, unfolding(crate::specs::Answers::quoted_title))]
@@ -72,7 +64,7 @@ fn push_title(text: &mut String, title: &str) -> Result<(), AllocError>
     ensures { OnOk result (string_bytes text.new ≡ string_bytes text.old ++ quoted_title title.now) }
 {
     let title = Excerpt::of(title);
-    write!(text, " {title}, ")
+    write!(text, " {title}")
 }
 
 #[tactic(auto, unfolding(crate::specs::Answers::starts_line))]
@@ -80,7 +72,7 @@ fn push_starts(text: &mut String, count: u64) -> Result<(), AllocError>
     ensures { OnOk result (string_bytes text.new ≡ string_bytes text.old ++ starts_line count) }
 {
     let starts = Starts { count };
-    write!(text, "{starts}\n")
+    write!(text, ", {starts}\n")
 }
 
 /// The title of the job at a place; nothing where there is none.

@@ -12,7 +12,7 @@ use crate::week::{Signs, week_text};
 use std::alloc::{AllocError, Global};
 
 /// What is asked of a plan.
-#[derive(Debug, Clone, Copy)]
+#[derive(Clone, Copy)]
 pub struct Questions {
     /// The picture of its dates, in these signs.
     pub week: Option<Signs>,

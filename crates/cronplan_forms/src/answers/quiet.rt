@@ -16,7 +16,7 @@ use std::alloc::{AllocError, Global};
 use std::fmt;
 
 /// A window of a plan, and what the clock shows at its two sides.
-#[derive(Debug, Clone, Copy)]
+#[derive(Clone, Copy)]
 pub struct ShownWindow {
     pub window: Window,
     pub from: ClockTime,
@@ -141,7 +141,7 @@ impl fmt::Display for ShownWindow {
 }
 
 /// Whether a window may be longer than the plan has it.
-pub(crate) fn is_at_edge(window: &Window) -> bool
+pub fn is_at_edge(window: &Window) -> bool
     ensures { result ≡ is_at_edge window.now }
 {
     is_edge(window.from.bound) || is_edge(window.until.bound)

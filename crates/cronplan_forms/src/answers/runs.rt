@@ -23,7 +23,7 @@ pub(crate) const LEAST_LONGEST: u64 = 3_600;
 const MOST_LONGEST: usize = 5;
 
 /// Windows of which each is the one before it a day later.
-#[derive(Debug, Clone, Copy)]
+#[derive(Clone, Copy)]
 pub struct WindowRun<'w> {
     pub windows: &'w [ShownWindow],
 }

@@ -3,7 +3,7 @@
 use std::fmt;
 
 /// What is said of a time without a start: that nothing starts, or nothing of what is shown, if jobs are left out.
-#[derive(Debug, Clone, Copy)]
+#[derive(Clone, Copy)]
 pub(crate) struct Silence {
     /// No job is left out.
     pub is_whole: bool,

@@ -20,7 +20,7 @@ const MONDAY_TO_SUNDAY: u32 = 6;
 const DAYS_PER_WEEK: u32 = 7;
 
 /// A month of a year of 32 bits. As a text it is `March 2027`.
-#[derive(Debug, Clone, Copy)]
+#[derive(Clone, Copy)]
 pub(crate) struct MonthNumber {
     /// How many months it comes after January of year 0, negative before it.
     pub number: i64,

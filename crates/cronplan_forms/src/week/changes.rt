@@ -1,17 +1,19 @@
 //! The changes of a clock below a picture.
 ghost use Rattle.std.specs.Prelude.{◌≡◌, ◌++◌, IfOk, OnOk, map, string_bytes};
 ghost use Rattle.std.specs.List.{All};
-ghost use Rattle.cronplan_forms.specs.Weeks.{kind_text, IsShownChange, IsNamedWall, expected_wall, is_put_forward, change_line, change_lines, forward_text, back_text};
+ghost use Rattle.cronplan_forms.specs.Weeks.{kind_text, IsShownChange, IsNamedWall, expected_wall, is_put_forward, change_line, change_text, change_lines, dropped_at, dropped_line, dropped_lines, forward_text, back_text};
 
-use crate::answers::Starts;
+use crate::answers::{Starts, push_job_name};
 use crate::clock::{TimeOfDay, second_of_day};
 use crate::date_name::{DateName, date_of_wall};
+use crate::job::Job;
+use crate::view::{Dropped, View};
 use cronplan::{ClockChange, Plan, Unit};
 use std::alloc::{AllocError, Global};
 use std::fmt;
 
 /// A date and time that a clock shows, or would show: `Sun 28 Mar 02:00`.
-#[derive(Debug, Clone, Copy)]
+#[derive(Clone, Copy)]
 pub struct NamedWall {
     /// As seconds from 1970-01-01T00:00:00.
     pub wall: i64,
@@ -46,7 +48,7 @@ impl fmt::Display for NamedWall {
 }
 
 /// A change of the clock, and what lies around it.
-#[derive(Debug, Clone, Copy)]
+#[derive(Clone, Copy)]
 pub struct ShownChange {
     pub change: ClockChange,
     /// What would follow what the clock showed last.
@@ -96,15 +98,28 @@ fn expected_wall(change: ClockChange) -> i64
     change.before.saturating_add(1)
 }
 
-/// Puts a line for each of these after a text. The only error is want of memory; what then stands after the text is not said.
+/// Appends a line for each of these to a text, and below it one for each job that lacks a start there. The only error is lack of memory; the
+/// text's end is then unspecified.
 #[tactic(auto, using(crate::proofs::WeekParts::changes_step), unfolding(crate::specs::Weeks::change_lines))]
-pub(crate) fn push_changes(text: &mut String, changes: &[ShownChange]) -> Result<(), AllocError>
-    ensures { OnOk result (string_bytes text.new ≡ string_bytes text.old ++ change_lines changes.now) }
+pub(crate) fn push_changes(
+    text: &mut String,
+    view: View<'_>,
+    changes: &[ShownChange],
+) -> Result<(), AllocError>
+    ensures { OnOk result (string_bytes text.new ≡ string_bytes text.old ++ change_lines view.entry changes.now) }
 {
     for change in changes {
-        push_change(text, *change)?;
+        push_lines(text, view, *change)?;
     }
     Ok(())
+}
+
+#[tactic(auto, unfolding(crate::specs::Weeks::change_text))]
+fn push_lines(text: &mut String, view: View<'_>, change: ShownChange) -> Result<(), AllocError>
+    ensures { OnOk result (string_bytes text.new ≡ string_bytes text.old ++ change_text view.entry change) }
+{
+    push_change(text, change)?;
+    push_dropped(text, view.jobs, change.change, view.dropped)
 }
 
 #[tactic(auto, unfolding(crate::specs::Weeks::change_line))]
@@ -147,4 +162,44 @@ fn push_back(text: &mut String, expected: NamedWall, shown: NamedWall) -> Result
     ensures { OnOk result (string_bytes text.new ≡ string_bytes text.old ++ back_text expected shown) }
 {
     write!(text, "the clock shows {shown} to {expected} twice")
+}
+
+#[tactic(auto, using(crate::proofs::WeekParts::dropped_step), unfolding(crate::specs::Weeks::dropped_lines))]
+fn push_dropped(
+    text: &mut String,
+    jobs: &[Job<'_>],
+    change: ClockChange,
+    dropped: &[Dropped],
+) -> Result<(), AllocError>
+    ensures { OnOk result (string_bytes text.new ≡ string_bytes text.old ++ dropped_lines jobs.now change dropped.now) }
+{
+    for job in dropped {
+        push_dropped_at(text, jobs, change, *job)?;
+    }
+    Ok(())
+}
+
+// Appends a job to a text, if it lacks a start at this change.
+fn push_dropped_at(
+    text: &mut String,
+    jobs: &[Job<'_>],
+    change: ClockChange,
+    dropped: Dropped,
+) -> Result<(), AllocError>
+    ensures { OnOk result (string_bytes text.new ≡ string_bytes text.old ++ dropped_at jobs.now change dropped) }
+{
+    if dropped.second != change.second {
+        return Ok(());
+    }
+    push_job(text, jobs, dropped.job)
+}
+
+// Appends a line to a text for the job at a place.
+#[tactic(auto, unfolding(crate::specs::Weeks::dropped_line))]
+fn push_job(text: &mut String, jobs: &[Job<'_>], place: usize) -> Result<(), AllocError>
+    ensures { OnOk result (string_bytes text.new ≡ string_bytes text.old ++ dropped_line jobs.now place) }
+{
+    text.push_str("  not made up for: ")?;
+    push_job_name(text, jobs, place)?;
+    text.push_str("\n")
 }

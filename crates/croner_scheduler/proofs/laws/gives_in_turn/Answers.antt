@@ -1,8 +1,7 @@
 use Rattle.croner_scheduler.proofs.History.{gives_in_turn, never_keeps_back, stays_gone}
-use Rattle.croner_scheduler.proofs.Lives.{gives_across, gives_of_one_life, none_ahead}
+use Rattle.croner_scheduler.proofs.Lives.{gives_across, gives_of_one_life}
 use Rattle.croner_scheduler.specs.Views.{held_of}
-use Rattle.std.specs.BTreeMap.{get}
-use Rattle.std.specs.Ordering.{nat_cmp}
+use Rattle.std.proofs.Common.{◌≡◌, ℕ, ◌≤◌, None, subst}
 use Rattle.croner_scheduler.proofs.laws.gives_in_turn.Goals as goal
 
 pub returns-clause-given : goal.returns-clause-given
@@ -21,4 +20,4 @@ pub returns-clause-one_life : goal.returns-clause-one_life
 returns-clause-one_life g c =
     let scheduler = c.args.scheduler.now in
     gives_of_one_life g.J.Recurring.runs (held_of g.T.CronDateTime.moment scheduler)
-    (none_ahead g.T.CronDateTime.moment (λ id. get nat_cmp scheduler.jobs id) scheduler.next_id scheduler.unused)
+    (subst (λ n. (id : ℕ) → n ≤ id → (held_of g.T.CronDateTime.moment scheduler).jobs id ≡ None) c.next_id.ensures.next_id c.next_id.ensures.unused)

@@ -11,16 +11,15 @@ returns c =
     page_text_is c.args.view c.args.about _ (string_bytes c.in_ok-text.text) c.in_ok-text.ensures (record {
       view_is = refl;
       about_is = refl;
-      first_is = rw (to_z-of_z w64 span.first (first_fits span.first span.end span.held)) at c.shown_at.ensures;
-      end_is = rw (to_z-of_z w64 span.end (end_fits span.first span.end span.held)) at c.shown_at-2.ensures;
+      first_is = rw (to_z-of_z w64 span.first (first_fits span.first span.end span.held)) at c.at.ensures;
+      end_is = rw (to_z-of_z w64 span.end (end_fits span.first span.end span.held)) at c.at-2.ensures;
       quiet_are = rw c.as_slice-2.ensures.value told.quiet;
       fullest_are = rw c.as_slice-3.ensures.value told.fullest;
       starts_are = rw c.as_slice-4.ensures.value told.starts;
       days_are = record {
-        days = c.in_ok-told.told.days.days.items;
         changes = c.in_ok-told.told.days.changes.items;
-        are_days = told.days;
-        are_named = rw c.as_slice-5.ensures.value (rw c.as_slice.ensures.value at c.in_ok-days.ensures);
+        are_days = rw c.as_slice-5.ensures.value (rw (c.in_ok-days.ensures.days, c.as_slice.ensures.value) told.days);
+        names = rw c.as_slice-5.ensures.value c.in_ok-days.ensures.names;
         are_timed = rw c.as_slice-6.ensures.value told.changes;
       };
     })

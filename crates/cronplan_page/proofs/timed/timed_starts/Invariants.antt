@@ -1,7 +1,6 @@
 use Rattle.std.proofs.Common.{take}
-use Rattle.croner_base.specs.TableZone.{table_zone}
 use Rattle.cronplan_page.specs.Timed.{AreTimedStarts}
 use Rattle.cronplan_page.proofs.timed.timed_starts.Given as goal
 
 abbrev pub invariant-loop-start : goal.invariant-loop-start
-invariant-loop-start l = AreTimedStarts (table_zone l.table) (take l.start-index l.starts) l.timed.items
+invariant-loop-start l = AreTimedStarts l.view (take l.start-index l.starts) l.timed.items

@@ -3,7 +3,7 @@ use Rattle.std.specs.Prelude.{◌==◌}
 use Rattle.cronplan.specs.declared.start.JobStart.{JobStart}
 use Rattle.croncheck_output.specs.Output.{written_of, WritesApart}
 use Rattle.croncheck_planner.specs.PlanAnswers.{WritesOwnAnswers, WritesOtherAnswers}
-use Rattle.croncheck_planner.specs.PlanList.{head_text}
+use Rattle.croncheck_planner.specs.PlanList.{head_text, whose_text}
 use Rattle.croncheck_output.proofs.OkResults.{if_ok}
 use Rattle.croncheck_planner.proofs.plan.answers.write_answers.Goals as goal
 
@@ -11,6 +11,7 @@ pub returns : goal.returns
 returns g c =
     let s = c.args.terms.now.settings.now in
     let shared = c.args.terms.now.shared.now in
+    let schedules = c.args.schedules.now in
     let jobs = c.args.jobs.now in
     let found = c.args.found.now in
     let asked = c.args.questions in
@@ -25,9 +26,10 @@ returns g c =
       told = told;
       answered = answered;
       head = subst (λ (head : List ℕ). WritesApart head old begun)
-          (c.head_text.ensures ∙ ap (λ (empty : Bool). head_text c.args.front.now empty) (c.is_empty.ensures ∙ ap (λ (starts : List JobStart). length starts == 0) c.as_slice-starts.ensures.value)) c.in_ok-write_apart.ensures.written;
+          (c.head_text.ensures ∙ ap (λ (whose : List ℕ). head_text whose c.is_empty.result) c.whose_text.ensures
+          ∙ ap (λ (empty : Bool). head_text (whose_text schedules) empty) (c.is_empty.ensures ∙ ap (λ (starts : List JobStart). length starts == 0) c.as_slice-starts.ensures.value)) c.in_ok-write_apart.ensures.written;
       left_out = c.in_ok-write_left_out.ensures;
-      own = subst (λ (name : List ℕ). WritesOwnAnswers s name jobs found asked told answered) c.as_str.ensures.value c.in_ok-write_own_answers.ensures;
-      other = subst (λ (name : List ℕ). WritesOtherAnswers shared name jobs found asked answered new) c.as_str-2.ensures.value other;
+      own = subst (λ (name : List ℕ). WritesOwnAnswers s name schedules jobs found asked told answered) c.as_str-zone.ensures.value c.in_ok-write_own_answers.ensures;
+      other = subst (λ (name : List ℕ). WritesOtherAnswers shared name jobs found asked answered new) c.as_str.ensures.value other;
     })
     c.write_other_answers.ensures

@@ -1,8 +1,8 @@
-use Rattle.std.proofs.Common.{◌∙◌, ℕ, List, ap, subst}
+use Rattle.std.proofs.Common.{List, subst}
+use Rattle.cronplan_jobs.specs.declared.listing.Schedule.{Schedule}
 use Rattle.croncheck_planner.specs.declared.planner.Planned.{Planned}
 use Rattle.croncheck_output.specs.Output.{written_of}
 use Rattle.croncheck_planner.specs.PlanAnswers.{WritesAnswers}
-use Rattle.croncheck_planner.specs.PlanList.{whose_text}
 use Rattle.croncheck_output.proofs.OkResults.{if_ok}
 use Rattle.croncheck_planner.proofs.planner.Planner.end_answers.Goals as goal
 
@@ -19,8 +19,7 @@ returns g c =
     (λ writes. record {
       found = found;
       found_is = c.in-Ok.ensures;
-      written = subst (λ (front : List ℕ). WritesAnswers s shared names front c.args.self.now.jobs.items found asked.questions old new)
-          (c.whose_text-whose.ensures ∙ ap whose_text c.as_slice.ensures.value)
-          (subst (λ (jobs : List Planned). WritesAnswers s shared names c.whose_text-whose.result.now jobs found asked.questions old new) c.as_slice-2.ensures.value writes);
+      written = subst (λ (schedules : List Schedule). WritesAnswers s shared names schedules c.args.self.now.jobs.items found asked.questions old new) c.as_slice.ensures.value
+          (subst (λ (jobs : List Planned). WritesAnswers s shared names c.as_slice.result.now jobs found asked.questions old new) c.as_slice-2.ensures.value writes);
     })
     c.write_answers.ensures

@@ -1,32 +1,29 @@
-use Rattle.std.proofs.Common.{rules, ◌≡◌, refl, sym, ap, ◌∙◌, subst, Some, IsSome, is_some, option_map}
-use Rattle.std.specs.BTreeMap.{get, btree_map_len}
-use Rattle.std.specs.Ordering.{nat_cmp}
+use Rattle.std.proofs.Common.{rules, ◌≡◌, refl, sym, ap, ◌∙◌, subst, Some, IsSome, is_some, option_map, length}
+use Rattle.croner_scheduler.specs.Ids.{job_of}
 use Rattle.croner_scheduler.specs.Calls.{MovesTo, AsksAgain, is_asked, AgainTellsStop}
 use Rattle.croner_scheduler.specs.Kept.{standing_of, stop_of, Fits}
 use Rattle.croner_scheduler.specs.Private.Steps.{job_with_next}
 use Rattle.croner_scheduler.specs.Private.Turns.{has_turn}
 use Rattle.croner_scheduler.specs.Standing.{Held}
 use Rattle.croner_scheduler.specs.Views.{held_of}
-use Rattle.croner_scheduler.proofs.Puts.{put_listed, put_unused, put_fits, put_moved, put_tells, changed_puts, asked_by, tells_by, stands_whole, of_standing}
+use Rattle.croner_scheduler.proofs.Puts.{put_listed, put_fits, put_moved, put_tells, changed_puts, asked_by, tells_by, stands_whole, of_standing}
 use Rattle.croner_scheduler.proofs.scheduler.Scheduler.ask_again.Goals as goal
 
 pub invariant_of-self-2 : goal.invariant_of-self-2
 invariant_of-self-2 g c =
     let self = c.args.self.now in
     let w = c.in-Some.waiting.now in
-    let there : get nat_cmp self.jobs c.args.id ≡ Some w = search rules in
+    let there : job_of self.jobs c.args.id ≡ Some w = search rules in
     let other = job_with_next c.in_ok-next.next w in
     let fit : Fits g.J.Recurring.runs g.T.CronDateTime.moment other = record {
-      whole = stands_whole g.J.Recurring.runs g.T.CronDateTime.moment (get nat_cmp self.jobs c.args.id) w (self.fits c.args.id) there;
+      whole = stands_whole g.J.Recurring.runs g.T.CronDateTime.moment (job_of self.jobs c.args.id) w (self.fits c.args.id) there;
       next = c.in_ok-next.ensures;
     } in
-    let puts = changed_puts c.args.id (λ k. get nat_cmp self.jobs k) (λ k. get nat_cmp c.renew.new.jobs k) w there (job_with_next c.in_ok-next.next) c.renew.ensures.jobs in
+    let puts = changed_puts c.args.id (λ k. job_of self.jobs k) (λ k. job_of c.renew.new.self k) w there (job_with_next c.in_ok-next.next) c.renew.ensures.jobs in
     record {
-      listed = put_listed g.J.Recurring.runs g.T.CronDateTime.moment c.args.id (λ k. get nat_cmp self.jobs k) (λ k. get nat_cmp c.renew.new.jobs k) (has_turn self.turns)
+      listed = put_listed g.J.Recurring.runs g.T.CronDateTime.moment c.args.id (λ k. job_of self.jobs k) (λ k. job_of c.renew.new.self k) (has_turn self.turns)
           self.listed self.fits w there other fit puts (has_turn c.change_turn.new.turns) c.in_ok-change_turn.ensures.changed;
-      unused = put_unused g.J.Recurring.runs g.T.CronDateTime.moment c.args.id (λ k. get nat_cmp self.jobs k) (λ k. get nat_cmp c.renew.new.jobs k) (has_turn self.turns)
-          self.listed self.fits w there other fit puts self.next_id self.unused;
-      fits = put_fits g.J.Recurring.runs g.T.CronDateTime.moment c.args.id (λ k. get nat_cmp self.jobs k) (λ k. get nat_cmp c.renew.new.jobs k) (has_turn self.turns)
+      fits = put_fits g.J.Recurring.runs g.T.CronDateTime.moment c.args.id (λ k. job_of self.jobs k) (λ k. job_of c.renew.new.self k) (has_turn self.turns)
           self.listed self.fits w there other fit puts;
     }
 
@@ -34,39 +31,39 @@ pub returns-clause-asked : goal.returns-clause-asked
 returns-clause-asked g c =
     let self = c.args.self.now in
     let w = c.in-Some.waiting.now in
-    let there : get nat_cmp self.jobs c.args.id ≡ Some w = search rules in
+    let there : job_of self.jobs c.args.id ≡ Some w = search rules in
     let stopped : IsSome (stop_of w.next) = search rules in
     let other = job_with_next c.in_ok-next.next w in
     let fit : Fits g.J.Recurring.runs g.T.CronDateTime.moment other = record {
-      whole = stands_whole g.J.Recurring.runs g.T.CronDateTime.moment (get nat_cmp self.jobs c.args.id) w (self.fits c.args.id) there;
+      whole = stands_whole g.J.Recurring.runs g.T.CronDateTime.moment (job_of self.jobs c.args.id) w (self.fits c.args.id) there;
       next = c.in_ok-next.ensures;
     } in
-    let puts = changed_puts c.args.id (λ k. get nat_cmp self.jobs k) (λ k. get nat_cmp c.renew.new.jobs k) w there (job_with_next c.in_ok-next.next) c.renew.ensures.jobs in
+    let puts = changed_puts c.args.id (λ k. job_of self.jobs k) (λ k. job_of c.renew.new.self k) w there (job_with_next c.in_ok-next.next) c.renew.ensures.jobs in
     let held = held_of g.T.CronDateTime.moment self in
-    let held' : Held _ = record { jobs = λ k. option_map (standing_of g.T.CronDateTime.moment) (get nat_cmp c.renew.new.jobs k); count = btree_map_len c.renew.new.jobs; next_id = self.next_id } in
+    let held' : Held _ = record { jobs = λ k. option_map (standing_of g.T.CronDateTime.moment) (job_of c.renew.new.self k); count = length c.renew.new.self.entries; next_id = c.renew.new.self.next_id } in
     subst (AsksAgain c.args.id held held') (sym (ap is_asked c.again_result-again.ensures ∙ asked_by (is_some (stop_of c.in_ok-next.next))))
     (of_standing g.T.CronDateTime.moment (λ s. IsSome s.stop × MovesTo held c.args.id s.position.instant held')
-    (get nat_cmp self.jobs c.args.id) w there (
+    (job_of self.jobs c.args.id) w there (
       stopped,
-      put_moved g.J.Recurring.runs g.T.CronDateTime.moment c.args.id (λ k. get nat_cmp self.jobs k) (λ k. get nat_cmp c.renew.new.jobs k) (has_turn self.turns)
+      put_moved g.J.Recurring.runs g.T.CronDateTime.moment c.args.id (λ k. job_of self.jobs k) (λ k. job_of c.renew.new.self k) (has_turn self.turns)
           self.listed self.fits w there other fit puts
-          held held' (λ k. refl) (λ k. refl) c.renew.ensures.count refl refl refl,
+          held held' (λ k. refl) (λ k. refl) c.renew.ensures.count c.renew.ensures.next_id refl refl,
     ))
 
 pub returns-clause-told : goal.returns-clause-told
 returns-clause-told g c =
     let self = c.args.self.now in
     let w = c.in-Some.waiting.now in
-    let there : get nat_cmp self.jobs c.args.id ≡ Some w = search rules in
+    let there : job_of self.jobs c.args.id ≡ Some w = search rules in
     let other = job_with_next c.in_ok-next.next w in
     let fit : Fits g.J.Recurring.runs g.T.CronDateTime.moment other = record {
-      whole = stands_whole g.J.Recurring.runs g.T.CronDateTime.moment (get nat_cmp self.jobs c.args.id) w (self.fits c.args.id) there;
+      whole = stands_whole g.J.Recurring.runs g.T.CronDateTime.moment (job_of self.jobs c.args.id) w (self.fits c.args.id) there;
       next = c.in_ok-next.ensures;
     } in
-    let puts = changed_puts c.args.id (λ k. get nat_cmp self.jobs k) (λ k. get nat_cmp c.renew.new.jobs k) w there (job_with_next c.in_ok-next.next) c.renew.ensures.jobs in
+    let puts = changed_puts c.args.id (λ k. job_of self.jobs k) (λ k. job_of c.renew.new.self k) w there (job_with_next c.in_ok-next.next) c.renew.ensures.jobs in
     let held = held_of g.T.CronDateTime.moment self in
-    let held' : Held _ = record { jobs = λ k. option_map (standing_of g.T.CronDateTime.moment) (get nat_cmp c.renew.new.jobs k); count = btree_map_len c.renew.new.jobs; next_id = self.next_id } in
+    let held' : Held _ = record { jobs = λ k. option_map (standing_of g.T.CronDateTime.moment) (job_of c.renew.new.self k); count = length c.renew.new.self.entries; next_id = c.renew.new.self.next_id } in
     subst (AgainTellsStop c.args.id held') (sym c.again_result-again.ensures)
     (tells_by held' c.args.id (is_some (stop_of c.in_ok-next.next))
-    (put_tells g.J.Recurring.runs g.T.CronDateTime.moment c.args.id (λ k. get nat_cmp self.jobs k) (λ k. get nat_cmp c.renew.new.jobs k) (has_turn self.turns)
-    self.listed self.fits w there other fit puts held held' (λ k. refl) (λ k. refl) c.renew.ensures.count refl))
+    (put_tells g.J.Recurring.runs g.T.CronDateTime.moment c.args.id (λ k. job_of self.jobs k) (λ k. job_of c.renew.new.self k) (has_turn self.turns)
+    self.listed self.fits w there other fit puts held held' (λ k. refl) (λ k. refl) c.renew.ensures.count c.renew.ensures.next_id))

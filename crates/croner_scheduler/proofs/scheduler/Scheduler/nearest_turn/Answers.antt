@@ -1,6 +1,5 @@
 use Rattle.std.proofs.Common.{refl}
-use Rattle.std.specs.BTreeMap.{get}
-use Rattle.std.specs.Ordering.{nat_cmp}
+use Rattle.croner_scheduler.specs.Ids.{job_of}
 use Rattle.croner_scheduler.specs.Private.Turns.{has_turn}
 use Rattle.croner_scheduler.specs.Views.{held_of}
 use Rattle.croner_scheduler.proofs.Nearest.{nearest, awaits_first}
@@ -9,10 +8,10 @@ use Rattle.croner_scheduler.proofs.scheduler.Scheduler.nearest_turn.Goals as goa
 pub returns-clause-nearest : goal.returns-clause-nearest
 returns-clause-nearest g c =
     let self = c.args.self.now in
-    nearest g.J.Recurring.runs g.T.CronDateTime.moment (held_of g.T.CronDateTime.moment self) (λ id. get nat_cmp self.jobs id) (has_turn self.turns)
+    nearest g.J.Recurring.runs g.T.CronDateTime.moment (held_of g.T.CronDateTime.moment self) (λ id. job_of self.jobs id) (has_turn self.turns)
     (λ id. refl) self.listed self.fits c.first_turn.result c.first_turn.ensures
 
 pub returns-clause-awaited : goal.returns-clause-awaited
 returns-clause-awaited g c =
     let self = c.args.self.now in
-    awaits_first g.T.CronDateTime.moment (held_of g.T.CronDateTime.moment self) (λ id. get nat_cmp self.jobs id) (λ id. refl) (has_turn self.turns) self.listed c.first_turn.result c.first_turn.ensures
+    awaits_first g.T.CronDateTime.moment (held_of g.T.CronDateTime.moment self) (λ id. job_of self.jobs id) (λ id. refl) (has_turn self.turns) self.listed c.first_turn.result c.first_turn.ensures

@@ -1,8 +1,7 @@
 use Rattle.std.proofs.Common.{rules, ◌≡◌, refl, sym, ap, ◌∙◌, subst, ℤ, ◌<ℤ◌, true, None, Some, Result, Ok, Err, IfOk, IfSome, w64, SFits, option_map}
 use Rattle.std.proofs.lemmas.Int.{to_z-of_z}
-use Rattle.std.specs.BTreeMap.{get}
-use Rattle.std.specs.Ordering.{nat_cmp}
 use Rattle.croner_base.specs.Zone.{at_instant}
+use Rattle.croner_scheduler.specs.Ids.{job_of}
 use Rattle.croner_scheduler.proofs.LastRuns.{due_by, not_due, awaited, takes}
 use Rattle.croner_scheduler.proofs.Puts.{fits_there, of_standing}
 use Rattle.croner_scheduler.specs.Calls.{IsNotDue, TakesLatest}
@@ -16,10 +15,10 @@ pub returns-in_default-due_run-clause-taken : goal.returns-in_default-due_run-cl
 returns-in_default-due_run-clause-taken g c =
     let self = c.args.self.now in
     let w = c.in-Some.waiting.now in
-    let there : get nat_cmp self.jobs c.args.id ≡ Some w = search rules in
+    let there : job_of self.jobs c.args.id ≡ Some w = search rules in
     let none : due_run g.T.CronDateTime.moment c.args.now w.next ≡ None = search rules in
-    let fits = fits_there g.J.Recurring.runs g.T.CronDateTime.moment (get nat_cmp self.jobs c.args.id) w (self.fits c.args.id) there in (
-      of_standing g.T.CronDateTime.moment (λ s. IsNotDue g.J.Recurring.runs c.args.now s × IfSome s.next (λ n. c.args.now <ℤ n)) (get nat_cmp self.jobs c.args.id) w there
+    let fits = fits_there g.J.Recurring.runs g.T.CronDateTime.moment (job_of self.jobs c.args.id) w (self.fits c.args.id) there in (
+      of_standing g.T.CronDateTime.moment (λ s. IsNotDue g.J.Recurring.runs c.args.now s × IfSome s.next (λ n. c.args.now <ℤ n)) (job_of self.jobs c.args.id) w there
           (not_due g.J.Recurring.runs g.T.CronDateTime.moment c.args.now w fits none),
       record { jobs = λ id. refl; count = refl; next_id = refl },
     )
@@ -29,15 +28,15 @@ give_last-requires-clause-turn g c =
     let self = c.args.self.now in
     let w = c.in-Some.waiting.now in
     let t = c.in-Some-due_run.next.now in
-    let there : get nat_cmp self.jobs c.args.id ≡ Some w = search rules in
+    let there : job_of self.jobs c.args.id ≡ Some w = search rules in
     let run : due_run g.T.CronDateTime.moment c.args.now w.next ≡ Some t = search rules in
     let due = due_by g.T.CronDateTime.moment c.args.now w.next t run in
-    let fits = fits_there g.J.Recurring.runs g.T.CronDateTime.moment (get nat_cmp self.jobs c.args.id) w (self.fits c.args.id) there in
+    let fits = fits_there g.J.Recurring.runs g.T.CronDateTime.moment (job_of self.jobs c.args.id) w (self.fits c.args.id) there in
     let whole : SFits w64 c.second-known.result = search rules in
     subst (λ (z : ℤ). has_turn self.turns z c.args.id ≡ true) (sym (to_z-of_z w64 c.second-known.result whole))
     (subst (λ (z : ℤ). has_turn self.turns z c.args.id ≡ true) (sym c.second-known.ensures)
     (self.listed (g.T.CronDateTime.moment t).instant c.args.id
-    ∙ awaited g.J.Recurring.runs g.T.CronDateTime.moment c.args.now w fits t due.0 due.1 (get nat_cmp self.jobs c.args.id) there))
+    ∙ awaited g.J.Recurring.runs g.T.CronDateTime.moment c.args.now w fits t due.0 due.1 (job_of self.jobs c.args.id) there))
 
 if_ok : {A E : Type 0} (P Q : A → Type 0) (r : Result A E) → IfOk r P → ((a : A) → P a → Q a) → IfOk r Q
 if_ok P Q (Ok a) h f = f a h
@@ -50,10 +49,10 @@ returns-clause-taken g c =
     let held' = held_of g.T.CronDateTime.moment c.give_last.new.self in
     let w = c.in-Some.waiting.now in
     let t = c.in-Some-due_run.next.now in
-    let there : get nat_cmp self.jobs c.args.id ≡ Some w = search rules in
+    let there : job_of self.jobs c.args.id ≡ Some w = search rules in
     let run : due_run g.T.CronDateTime.moment c.args.now w.next ≡ Some t = search rules in
     let due = due_by g.T.CronDateTime.moment c.args.now w.next t run in
-    let fits = fits_there g.J.Recurring.runs g.T.CronDateTime.moment (get nat_cmp self.jobs c.args.id) w (self.fits c.args.id) there in
+    let fits = fits_there g.J.Recurring.runs g.T.CronDateTime.moment (job_of self.jobs c.args.id) w (self.fits c.args.id) there in
     let whole : SFits w64 c.second-known.result = search rules in
     let now_fits : SFits w64 c.args.now = search rules in
     let at = subst (λ (z : ℤ). (g.T.CronDateTime.moment c.in-Some-at_second.until ≡ at_instant (g.T.CronDateTime.moment w.position).zone z) × ((g.T.CronDateTime.moment w.position).zone.holds z ≡ true))

@@ -1,4 +1,4 @@
-use Rattle.std.proofs.Common.{◌∙◌, List, ap, map, refl}
+use Rattle.std.proofs.Common.{◌∙◌, List, ap, map, refl, rules}
 use Rattle.std.specs.declared.alloc.Global.{Global}
 use Rattle.std.specs.declared.vec.Vec.{Vec}
 use Rattle.cronplan_forms.specs.declared.job.Job.{Job}
@@ -13,12 +13,13 @@ use Rattle.croncheck_planner.proofs.planner.page.PagePlanner.page.Goals as goal
 pub returns : goal.returns
 returns c = record {
   found = c.in_ok-found.found;
-  view = c.view_of-view.result;
+  view = c.view_beside-view.result;
   about = _;
   found_is = c.in_ok-found.ensures;
-  is_view = c.view_of-view.ensures.view c.args.self.now.planner.jobs.items
+  is_view = c.view_beside-view.ensures.view c.args.self.now.planner.jobs.items
       (ap (λ (jobs : List Job). jobs_told jobs) c.as_slice-4.ensures.value ∙ c.in_ok-told.ensures ∙ ap (λ (jobs : List Planned). jobs_planned jobs) c.as_slice.ensures.value);
-  zone_is = c.view_of-view.ensures.zone ∙ c.as_str.ensures.value;
+  zone_is = c.view_beside-view.ensures.zone;
+  other_is = c.view_beside-view.ensures.other (search rules);
   title_is = refl;
   ignored_are = refl;
   warnings_are = ap (λ (warnings : List Warnings). map (λ (w : Warnings). lines_told w.lines.now) warnings) c.as_slice-warnings.ensures.value ∙ c.in_ok-warned.ensures

@@ -1,0 +1,11 @@
+use Rattle.std.proofs.Common.{◌≡◌, length}
+use Rattle.std.specs.Slice.Iter.{iter_rest}
+use Rattle.croner_scheduler.specs.Private.Places.{entries_in}
+use Rattle.croner_scheduler.proofs.iter.IterIterator.next.Given as goal
+
+abbrev pub invariant-loop-id : goal.invariant-loop-id
+invariant-loop-id g l =
+    entries_in (iter_rest l.self-inside.ids) (iter_rest l.self-inside.places) ≡ entries_in (iter_rest l.initial.self-inside.ids) (iter_rest l.initial.self-inside.places)
+
+abbrev pub decreases-loop-id : goal.decreases-loop-id
+decreases-loop-id g l = length (iter_rest l.self-inside.ids)

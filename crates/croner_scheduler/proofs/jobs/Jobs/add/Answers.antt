@@ -1,0 +1,38 @@
+use Rattle.std.proofs.Common.{ap, ap₂, ◌∙◌, arith, cond, length, nat_cmp, Some, ◌+◌}
+use Rattle.croner_scheduler.proofs.TakenOut.{in_row, few, job_with, one_more, with_one, places_of}
+use Rattle.std.specs.BTreeMap.{is_at}
+use Rattle.std.specs.Map.{lookup}
+use Rattle.croner_scheduler.specs.Ids.{job_of}
+use Rattle.croner_scheduler.specs.Private.Places.{entries_in}
+use Rattle.croner_scheduler.proofs.jobs.Jobs.add.Goals as goal
+
+pub invariant_of-self : goal.invariant_of-self
+invariant_of-self g c =
+    let self = c.self.inside in
+    in_row self.ids.items self.places.items c.make_room.new.ids.items c.make_room.new.places.items c.make_room.ensures.kept self.count self.next_id c.self.invariant
+
+pub overflow_add-self : goal.overflow_add-self
+overflow_add-self g c =
+    let self = c.self.inside in
+    let le = few self.ids.items self.places.items c.make_room.new.ids.items c.make_room.new.places.items c.make_room.ensures.kept self.count self.next_id c.self.invariant in
+    omega (arith, le, c.make_room.new.ids.ok.0, c.make_room.new.ids.ok.1, c.make_room.new.ids.small)
+
+pub invariant_of-self-2 : goal.invariant_of-self-2
+invariant_of-self-2 g c =
+    let self = c.self.inside in
+    places_of (self.count + 1) (self.next_id + 1) c.push_reserved.ensures.items c.push_reserved-2.ensures.items
+    (with_one self.ids.items self.places.items c.make_room.new.ids.items c.make_room.new.places.items c.make_room.ensures.kept self.count self.next_id c.self.invariant c.args.waiting)
+
+pub returns-clause-jobs : goal.returns-clause-jobs
+returns-clause-jobs g c k =
+    let self = c.self.inside in
+    ap (lookup (is_at (nat_cmp k))) (ap₂ entries_in c.push_reserved.ensures.items c.push_reserved-2.ensures.items)
+    ∙ job_with self.ids.items self.places.items c.make_room.new.ids.items c.make_room.new.places.items c.make_room.ensures.kept self.count self.next_id c.self.invariant c.args.waiting k
+    ∙ ap (λ jobs. cond (is_at (nat_cmp jobs.next_id) k) (Some c.args.waiting) (job_of jobs k)) c.self.view_is
+
+pub returns-clause-count : goal.returns-clause-count
+returns-clause-count g c =
+    let self = c.self.inside in
+    ap length (ap₂ entries_in c.push_reserved.ensures.items c.push_reserved-2.ensures.items)
+    ∙ one_more self.ids.items self.places.items c.make_room.new.ids.items c.make_room.new.places.items c.make_room.ensures.kept self.count self.next_id c.self.invariant c.args.waiting
+    ∙ ap (λ jobs. length jobs.entries + 1) c.self.view_is

@@ -1,0 +1,35 @@
+-- Jobs in places: each id that was given has one, and that of a removed job is empty. Private contracts alone cite these definitions.
+use Rattle.std.specs.Prelude.{◌≡◌, ◌<◌, ◌+◌, ℕ, Bool, true, false, is_some, List, [], ◌∷◌, length, slice_index_or, slice_set, Option, Some, None}
+use Rattle.std.specs.List.{AllByRecursion, swap}
+use Rattle.std.specs.List.Sorted.{IsStrictlySortedBy}
+use Rattle.std.specs.Ordering.{nat_cmp}
+
+-- the ids whose places hold a job, each with the job
+abbrev pub entries_in : {W : Type 0} → List ℕ → List (Option W) → List (ℕ × W)
+entries_in [] places = []
+entries_in (id ∷ ids) [] = []
+entries_in (id ∷ ids) (Some w ∷ places) = (id, w) ∷ entries_in ids places
+entries_in (id ∷ ids) (None ∷ places) = entries_in ids places
+
+-- the ids rise, each with its place, up to the next id; and so many places hold a job
+pub record ArePlaces {W : Type 0} (ids : List ℕ) (places : List (Option W)) (count next_id : ℕ) : Type 0 where
+  pub beside : length ids ≡ length places
+  pub ordered : IsStrictlySortedBy nat_cmp ids
+  pub below : AllByRecursion (λ id. id < next_id) ids
+  pub counted : count ≡ length (entries_in ids places)
+
+-- the jobs stay in their order, and their ids rise as far as they did
+pub record AreInRow {W : Type 0} (ids : List ℕ) (places : List (Option W)) (ids' : List ℕ) (places' : List (Option W)) : Type 0 where
+  pub beside : length ids' ≡ length places'
+  pub entries : entries_in ids' places' ≡ entries_in ids places
+  pub ordered : IsStrictlySortedBy nat_cmp ids → IsStrictlySortedBy nat_cmp ids'
+  pub below : (n : ℕ) → AllByRecursion (λ id. id < n) ids → AllByRecursion (λ id. id < n) ids'
+
+abbrev pub PutsBy : {W : Type 0} → List ℕ → List (Option W) → ℕ → ℕ → List ℕ → List (Option W) → ℕ → Bool → Type 0
+PutsBy ids places kept place ids' places' result true =
+    (result ≡ kept + 1) × (ids' ≡ slice_set ids kept (slice_index_or ids place 0)) × (places' ≡ swap places kept place)
+PutsBy ids places kept place ids' places' result false = (result ≡ kept) × (ids' ≡ ids) × (places' ≡ places)
+
+-- a place with a job goes behind those that are kept, with its id; one without stays
+abbrev pub PutsInFront : {W : Type 0} → List ℕ → List (Option W) → ℕ → ℕ → List ℕ → List (Option W) → ℕ → Type 0
+PutsInFront ids places kept place ids' places' result = PutsBy ids places kept place ids' places' result (is_some (slice_index_or places place None))
