@@ -62,7 +62,7 @@ pub fn weekday(caller: Caller<'_>, question: &Value) -> Result<Value> {
     let (days, shift): (_, i16) = (number_at(question, "days")?, number_at(question, "shift")?);
     caller.begin();
     let weekday = Weekday::from_days_from_sunday(days);
-    let later = weekday.shift(i32::from(shift));
+    let later = weekday.shift(shift as i32);
     let (days, days_later) = (weekday.num_days_from_sunday(), later.num_days_from_sunday());
     let same = are_alike(&weekday, &weekday);
     caller.end();
