@@ -4,7 +4,7 @@ use crate::{
     Caller, Fault, Job, Result, direction, number_at, shown, text, three_numbers, weekday, word,
 };
 use croner::time::TimeComponent;
-use croner::{CronComponent, CronPattern};
+use croner::{Cron, CronComponent, CronPattern};
 use serde_json::Value;
 
 /// A part of a date and time by its name.
@@ -91,8 +91,19 @@ pub fn call_of_pattern(
     op: &str,
     after: &mut String,
 ) -> Result<Value> {
-    let mut job = Job::read(caller.alloc, question)?;
-    let pattern = &mut job.cron.pattern;
+    let Cron { mut pattern } = Job::read(caller.alloc, question)?.into_cron();
+    let answer = answer_of_changed(caller, &mut pattern, question, op, after);
+    drop(pattern);
+    answer
+}
+
+fn answer_of_changed(
+    caller: Caller<'_>,
+    pattern: &mut CronPattern,
+    question: &Value,
+    op: &str,
+    after: &mut String,
+) -> Result<Value> {
     if let Some(name) = question.get("emptied") {
         *field_at(pattern, word(name)?)? = CronComponent::default(caller.alloc);
     }
