@@ -43,16 +43,32 @@ fn one_call<T: Clocked>(
     after: &mut String,
 ) -> Result<Value> {
     let before = standings(caller.alloc, scheduler)?;
-    let answer = call_scheduler(caller, scheduler, named, call);
-    let mut is_same = true;
-    if let Err(Fault::OutOfMemory) = answer {
-        is_same = standings(caller.alloc, scheduler)? == before;
-        let _ = call_scheduler(caller.without_marks(), scheduler, named, call)?;
+    match call_scheduler(caller, scheduler, named, call) {
+        Err(Fault::OutOfMemory) => {
+            let is_same = standings(caller.alloc, scheduler)? == before;
+            let caller = caller.without_marks();
+            let _ = call_scheduler(caller, scheduler, named, call)?;
+            add_calls_after(caller, scheduler, named, (question, is_same), after)?;
+            Err(Fault::OutOfMemory)
+        }
+        answer => {
+            let caller = caller.without_marks();
+            add_calls_after(caller, scheduler, named, (question, true), after)?;
+            answer
+        }
     }
-    let calls = list(question, "after")?;
-    let answers = call_in_turn(caller.without_marks(), scheduler, named, calls)?;
-    write!(after, "{is_same} {answers}")?;
-    answer
+}
+
+// Adds whether the jobs were the same, and the answers of the calls after a call.
+fn add_calls_after<T: Clocked>(
+    caller: Caller<'_>,
+    scheduler: &mut Scheduler<FlakyJob, T>,
+    named: &Named<'_, T>,
+    (question, is_same): (&Value, bool),
+    after: &mut String,
+) -> Result<()> {
+    let answers = call_in_turn(caller, scheduler, named, list(question, "after")?)?;
+    Ok(write!(after, "{is_same} {answers}")?)
 }
 
 /// The answers of the calls of a question, on a scheduler that begins without jobs. With the member `call` that call's answer after
