@@ -92,8 +92,13 @@ def ignored_lines(case):
                 if told["kind"] == "job" and told["job"]["times"]["when"] == "reboot":
                     grave.append("starts as the machine does: it has no time in a plan")
                 found += [plain(f"{file}:{line} {text}") for text in grave]
-        found += [plain(f"{name}: {it['text']}") for told in files if told["file"] == name for it in told["findings"]]
+        found += [plain(f"{name}: {it['text']}{name_after(it)}") for told in files if told["file"] == name for it in told["findings"]]
     return found
+
+
+def name_after(finding):
+    """The name of a warning for which cron ignores a file, as a page has it after the text."""
+    return f" ({finding['name']})" if finding.get("name") in ("no-newline", "many-lines") else ""
 
 
 def judge_quiet(tally, what, case, plan, sections):
