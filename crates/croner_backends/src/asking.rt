@@ -94,6 +94,8 @@ impl<'t> CronDateTime for AskingTime<'t> {
 
 /// The seconds of the table.
 impl<'t> Clocked for AskingTime<'t> {
+    ghost use Rattle.croner_base.proofs.clocks.Seconds.{table_held};
+
     fn second(&self) -> i64 {
         self.time.second()
     }
@@ -104,4 +106,6 @@ impl<'t> Clocked for AskingTime<'t> {
             None => None,
         }
     }
+
+    ghost holds_its_second = { λ t. table_held t.time };
 }

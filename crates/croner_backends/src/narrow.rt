@@ -191,6 +191,8 @@ impl<'t> CronDateTime for NarrowTime<'t> {
 
 /// The seconds that are held.
 impl<'t> Clocked for NarrowTime<'t> {
+    ghost use Rattle.croner_backends.proofs.Narrowed.{holds_second};
+
     fn second(&self) -> i64 {
         self.time.second()
     }
@@ -202,4 +204,6 @@ impl<'t> Clocked for NarrowTime<'t> {
             None => None,
         }
     }
+
+    ghost holds_its_second = { λ t. holds_second t };
 }

@@ -70,12 +70,12 @@ impl fmt::Display for Excerpt<'_> {
         let text = self.text();
         let most = self.most();
         let count = character_count(text);
-        let shown = Shown { text, most };
+        let front = Front { text, most };
         if count <= most {
-            return write!(f, "'{shown}'");
+            return write!(f, "'{front}'");
         }
         let left_out = count - most;
-        write!(f, "'{shown}' (characters left out: {left_out})")
+        write!(f, "'{front}' (characters left out: {left_out})")
     }
 }
 
@@ -87,12 +87,12 @@ fn character_count(text: &str) -> usize
 
 /// The first characters of a text, up to a number of them, as a message repeats them.
 #[derive(Clone, Copy)]
-struct Shown<'t> {
+struct Front<'t> {
     text: &'t str,
     most: usize,
 }
 
-impl<'t> Shown<'t> {
+impl<'t> Front<'t> {
     fn text(&self) -> &'t str
         ensures { result.now ≡ self.now.text.now }
     {
@@ -100,7 +100,7 @@ impl<'t> Shown<'t> {
     }
 }
 
-impl fmt::Display for Shown<'_> {
+impl fmt::Display for Front<'_> {
     ghost output = { λ s. Some (all_shown (take s.most (chars s.text.now))) };
 
     fn fmt<W: fmt::Write>(&self, f: &mut fmt::Formatter<W>) -> fmt::Result {

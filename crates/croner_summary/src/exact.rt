@@ -63,7 +63,7 @@ pub(crate) fn has(field: &CronComponent, bit: u8, value: u16) -> bool
 }
 
 /// Whether the pieces name exactly the marked values of a field.
-fn are_exact(least: u16, greatest: u16, pieces: &[Piece], bit: u8, field: &CronComponent) -> bool
+fn name_exactly(least: u16, greatest: u16, pieces: &[Piece], bit: u8, field: &CronComponent) -> bool
     requires room { greatest < 65535 }
     ensures { IsTrue result → AgreeBelow least greatest pieces.now bit field.now (greatest + 1) }
 {
@@ -109,7 +109,7 @@ pub(crate) fn exact_phrase(
     ensures ok { IfOk result (IsExact least greatest bit field.now) }
     ensures err { IfErr result (λ e. e ≡ CronError.OutOfMemory) }
 {
-    if are_exact(least, greatest, &found, bit, field) {
+    if name_exactly(least, greatest, &found, bit, field) {
         return Ok(Phrase { pieces: found });
     }
     let pieces = pieces_one_by_one(alloc, least, greatest, bit, field)?;

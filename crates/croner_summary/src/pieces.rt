@@ -56,7 +56,7 @@ fn steps_of(least: u16, greatest: u16, step: u16) -> u16
 }
 
 /// One piece for values that lie a step apart.
-fn stepped_piece(least: u16, greatest: u16, values: &[u16], step: u16) -> Option<Piece>
+fn piece_of_values(least: u16, greatest: u16, values: &[u16], step: u16) -> Option<Piece>
     requires some { 0 < length values.now }
     requires room { greatest < 65535 }
 {
@@ -83,7 +83,7 @@ fn one_piece(least: u16, greatest: u16, values: &[u16]) -> Option<Piece>
     if values.is_empty() || step == 0 || !is_even(values, step) {
         return None;
     }
-    stepped_piece(least, greatest, values, step)
+    piece_of_values(least, greatest, values, step)
 }
 
 /// The index of the last value in a row from one on.

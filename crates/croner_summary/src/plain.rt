@@ -80,7 +80,7 @@ fn step_agrees(least: u16, greatest: u16, pieces: &[Piece], from: u16, next: u16
 }
 
 /// Whether the pieces name exactly the plain values of a field.
-fn are_exact(least: u16, greatest: u16, pieces: &[Piece], field: &CronComponent) -> bool
+fn name_plain_exactly(least: u16, greatest: u16, pieces: &[Piece], field: &CronComponent) -> bool
     requires { greatest < 65534 }
     ensures { IsTrue result → AgreeBelow least greatest pieces.now ALL_BIT field.now (greatest + 1) }
 {
@@ -107,7 +107,7 @@ pub(crate) fn exact_plain_phrase(
     ensures ok { IfOk result (IsExact least greatest ALL_BIT field.now) }
     ensures err { IfErr result (λ e. e ≡ CronError.OutOfMemory) }
 {
-    if are_exact(least, greatest, &found, field) {
+    if name_plain_exactly(least, greatest, &found, field) {
         return Ok(Phrase { pieces: found });
     }
     let pieces = pieces_one_by_one(alloc, least, greatest, ALL_BIT, field)?;

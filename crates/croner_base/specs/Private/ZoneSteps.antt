@@ -4,7 +4,7 @@ use Rattle.std.specs.Prelude.{◌≡◌, ℕ, ℤ, pos, ◌+ℤ◌, ◌-ℤ◌, 
 use Rattle.jiff_core.specs.Timestamp.{nanos_of_seconds}
 use Rattle.jiff_tz.specs.Year.{year_of_nanos}
 use Rattle.jiff_tz.specs.declared.timezone.TimeZone.{TimeZone}
-use Rattle.croner_base.specs.declared.time.table.of_zone.Shown.{Shown}
+use Rattle.croner_base.specs.declared.time.table.of_zone.Reading.{Reading}
 use Rattle.croner_base.specs.ZonedZone.{first_timestamp, last_timestamp}
 use Rattle.croner_base.specs.ZoneTable.{ahead_at}
 
@@ -14,7 +14,7 @@ pub record IsHeld (i : ℤ) : Type 0 where
   pub high : i ≤ℤ last_timestamp
 
 -- what a zone shows at a second
-pub record IsShown (tz : TimeZone) (i : ℤ) (s : Shown) : Type 0 where
+pub record IsReading (tz : TimeZone) (i : ℤ) (s : Reading) : Type 0 where
   pub second_is : s.second ≡ i
   pub ahead_is : s.ahead ≡ ahead_at tz i
 

@@ -12,7 +12,7 @@ ghost use Rattle.croner_base.specs.Private.words.Word.{word_bits};
 use std::alloc::{AllocError, Global};
 use std::fmt;
 use std::marker::Model;
-use words::{ALL_ROWS, MODIFIERS, Shown, WORD_BITS, copy_words, same_words};
+use words::{ALL_ROWS, MODIFIERS, UsedWords, WORD_BITS, copy_words, same_words};
 
 mod compare;
 mod count;
@@ -278,9 +278,9 @@ impl Marks {
 impl fmt::Debug for Marks {
     fn fmt<W: fmt::Write>(&self, f: &mut fmt::Formatter<W>) -> fmt::Result {
         let words = if self.is_in_place {
-            Shown::InPlace(&self.in_place)
+            UsedWords::InPlace(&self.in_place)
         } else {
-            Shown::OnHeap(&self.on_heap)
+            UsedWords::OnHeap(&self.on_heap)
         };
         f.debug_struct("Marks")
             .field("words", &words)

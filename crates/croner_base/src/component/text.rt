@@ -74,11 +74,11 @@ impl Signs {
         ensures { result ≡ with_byte self byte at }
     {
         Signs {
-            hash: met_at(byte, b'#', at, self.hash),
-            dash: met_at(byte, b'-', at, self.dash),
-            slash: met_at(byte, b'/', at, self.slash),
-            letter_l: met_at(byte, b'L', at, self.letter_l),
-            letter_w: met_at(byte, b'W', at, self.letter_w),
+            hash: place_if(byte, b'#', at, self.hash),
+            dash: place_if(byte, b'-', at, self.dash),
+            slash: place_if(byte, b'/', at, self.slash),
+            letter_l: place_if(byte, b'L', at, self.letter_l),
+            letter_w: place_if(byte, b'W', at, self.letter_w),
         }
     }
 
@@ -111,7 +111,7 @@ impl Signs {
 }
 
 #[inline(always)]
-fn met_at(byte: u8, sign: u8, at: usize, place: usize) -> usize
+fn place_if(byte: u8, sign: u8, at: usize, place: usize) -> usize
     ensures { result ≡ (if byte == sign then at else place) }
 {
     if byte == sign { at } else { place }

@@ -12,6 +12,7 @@ const NANOSECONDS_PER_SECOND: i128 = 1_000_000_000;
 
 /// A time that gives the number of its second, and the time at another second in its zone. Neither call takes memory.
 pub trait Clocked: CronDateTime {
+    ghost use Rattle.std.specs.Prelude.{true};
     ghost use Rattle.croner_base.specs.Clocked.{IsAtSecond};
 
     /// The whole second it lies in, counted from 1970-01-01T00:00:00 UTC; in civil time, from that date and time. Half
@@ -34,10 +35,14 @@ pub trait Clocked: CronDateTime {
     /// ```
     fn at_second(&self, second: i64) -> Option<Self>
         ensures { IsAtSecond Self.moment (Self.moment self.now).zone second result };
+
+    /// The implementation holds the second in which a time lies: `at_second` gives a time there.
+    ghost holds_its_second: { (a : Self) → (Self.moment a).zone.holds (Self.moment a).instant ≡ true };
 }
 
 /// The years -9999 to 9999.
 impl Clocked for DateTime {
+    ghost use Rattle.croner_base.proofs.clocks.Seconds.{civil_held};
     ghost use Rattle.croner_base.specs.CivilZone.{civil_moment};
     ghost use Rattle.croner_base.specs.Clocked.{IsAtSecond};
 
@@ -52,10 +57,14 @@ impl Clocked for DateTime {
             Err(_) => None,
         }
     }
+
+    ghost holds_its_second = { λ dt. civil_held dt };
 }
 
 /// The seconds of `jiff`'s instants, -377,705,023,201 to 253,402,207,200.
 impl<'a> Clocked for Zoned<'a> {
+    ghost use Rattle.croner_base.proofs.clocks.Seconds.{zoned_held};
+
     fn second(&self) -> i64 {
         self.timestamp().to_plain().floor_second()
     }
@@ -67,10 +76,14 @@ impl<'a> Clocked for Zoned<'a> {
             Err(_) => None,
         }
     }
+
+    ghost holds_its_second = { λ z. zoned_held z };
 }
 
 /// The seconds of the UTC years -9999 to 9999.
 impl<'t> Clocked for TableTime<'t> {
+    ghost use Rattle.croner_base.proofs.clocks.Seconds.{table_held};
+
     fn second(&self) -> i64 {
         TableTime::second(self)
     }
@@ -82,4 +95,6 @@ impl<'t> Clocked for TableTime<'t> {
             Err(_) => None,
         }
     }
+
+    ghost holds_its_second = { λ t. table_held t };
 }

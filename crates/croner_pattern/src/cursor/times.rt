@@ -4,7 +4,7 @@ ghost use Rattle.croner_base.specs.Civil.{IsTimeOfDay};
 ghost use Rattle.croner_pattern.specs.Shapes.{has_field_shapes};
 ghost use Rattle.croner_pattern.specs.Private.Cursor.{one_on, FindsForemost, FindsNearest, place_in_day, IsMatchingTime, IsInHours, IsInMinutes, IsInSeconds, IsMove};
 
-use crate::cursor::values::{first_value, is_plain, nearest_beyond, nearest_value};
+use crate::cursor::values::{foremost_value, is_plain, nearest_beyond, nearest_value};
 use crate::pattern::{PatternWords, Unit};
 use croner_base::limits::{LAST_HOUR, LAST_MINUTE, LAST_SECOND};
 use croner_base::time::{CivilTime, Direction};
@@ -15,9 +15,9 @@ pub(crate) fn first_time<P: PatternWords>(pattern: &P, direction: Direction) -> 
     requires { has_field_shapes (P.meaning pattern.now) ≡ true }
     ensures { FindsForemost place_in_day (IsMatchingTime (P.meaning pattern.now)) direction result }
 {
-    let hour = first_value(pattern, Unit::Hour, LAST_HOUR, direction)?;
-    let minute = first_value(pattern, Unit::Minute, LAST_MINUTE, direction)?;
-    let second = first_value(pattern, Unit::Second, LAST_SECOND, direction)?;
+    let hour = foremost_value(pattern, Unit::Hour, LAST_HOUR, direction)?;
+    let minute = foremost_value(pattern, Unit::Minute, LAST_MINUTE, direction)?;
+    let second = foremost_value(pattern, Unit::Second, LAST_SECOND, direction)?;
     Some(CivilTime::from_parts_unchecked(hour, minute, second))
 }
 
@@ -57,7 +57,7 @@ fn in_later_minutes<P: PatternWords>(
         return None;
     }
     let minute = nearest_beyond(pattern, Unit::Minute, LAST_MINUTE, minute, direction)?;
-    let second = first_value(pattern, Unit::Second, LAST_SECOND, direction)?;
+    let second = foremost_value(pattern, Unit::Second, LAST_SECOND, direction)?;
     Some(CivilTime::from_parts_unchecked(hour, minute, second))
 }
 
@@ -73,8 +73,8 @@ fn in_later_hours<P: PatternWords>(
     ensures { FindsForemost place_in_day (IsInHours (P.meaning pattern.now) direction (one_on direction (pos hour))) direction result }
 {
     let hour = nearest_beyond(pattern, Unit::Hour, LAST_HOUR, hour, direction)?;
-    let minute = first_value(pattern, Unit::Minute, LAST_MINUTE, direction)?;
-    let second = first_value(pattern, Unit::Second, LAST_SECOND, direction)?;
+    let minute = foremost_value(pattern, Unit::Minute, LAST_MINUTE, direction)?;
+    let second = foremost_value(pattern, Unit::Second, LAST_SECOND, direction)?;
     Some(CivilTime::from_parts_unchecked(hour, minute, second))
 }
 

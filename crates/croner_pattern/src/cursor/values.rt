@@ -133,7 +133,7 @@ pub(crate) fn nearest_beyond<P: PatternWords>(
 
 // The first plain value in the direction, of a field of values from 0.
 #[inline(always)]
-pub(crate) fn first_value<P: PatternWords>(
+pub(crate) fn foremost_value<P: PatternWords>(
     pattern: &P,
     unit: Unit,
     max: u32,

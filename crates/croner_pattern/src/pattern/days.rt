@@ -61,7 +61,7 @@ impl CronPattern {
             return Err(CronError::InvalidDate);
         }
         let length = days_in_month(year, month);
-        self.fits(length, first_weekday(day, weekday), day)
+        self.fits(length, first_from(day, weekday), day)
     }
 
     /// Whether this day is the nearest Monday-to-Friday day of some day that the day field marks with `W`.
@@ -90,7 +90,7 @@ impl CronPattern {
         ensures shaped { has_field_shapes (meaning_of self.now) ≡ true → result
             ≡ Ok (is_near_target (meaning_of self.now).days month_length (first_from (weekday_index weekday) day) day) }
     {
-        is_near_target(&self.days, month_length, first_weekday(day, weekday), day)
+        is_near_target(&self.days, month_length, first_from(day, weekday), day)
     }
 
     pub(super) fn fits(&self, length: u32, first: u32, day: u32) -> Result<bool, CronError>
@@ -119,7 +119,7 @@ impl CronPattern {
 }
 
 /// The weekday of the first of a month, from Sunday, counted back from a day's.
-fn first_weekday(day: u32, weekday: Weekday) -> u32
+fn first_from(day: u32, weekday: Weekday) -> u32
     requires { IsInRange 1 31 day }
     ensures value { result ≡ first_from (weekday_index weekday) day }
     ensures bound { result < 7 }

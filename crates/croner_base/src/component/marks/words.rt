@@ -15,7 +15,7 @@ pub const ALL_ROWS: u8 = 255;
 
 /// The words that are used, as `Debug` shows them.
 #[derive(Debug, Drop)]
-pub enum Shown<'a> {
+pub enum UsedWords<'a> {
     InPlace(&'a [u64]),
     OnHeap(&'a [u64]),
 }

@@ -3,7 +3,7 @@ ghost use Rattle.std.specs.Prelude.{◌≡◌, ◌-◌, ◌≤◌, ◌++◌, IsO
 ghost use Rattle.std.specs.List.{All};
 ghost use Rattle.jiff.specs.ZoneView.{plain_zone};
 ghost use Rattle.jiff_core.specs.Timestamp.{nanos_of_seconds};
-ghost use Rattle.croner_base.specs.Private.ZoneSteps.{IsHeld, IsShown, IsFirstSecond, IsYearEnd, IsNextQuestion, Repeats, again, period, repeated_until};
+ghost use Rattle.croner_base.specs.Private.ZoneSteps.{IsHeld, IsReading, IsFirstSecond, IsYearEnd, IsNextQuestion, Repeats, again, period, repeated_until};
 ghost use Rattle.croner_base.specs.TableZone.{HasParts, table_zone};
 ghost use Rattle.croner_base.specs.ZoneTable.{IsWindow, IsCalmWindow, IsNoTable, ahead_at, window_changes, nearest_in};
 ghost use Rattle.croner_base.specs.ZonedZone.{zone_reads, last_timestamp};
@@ -66,23 +66,23 @@ impl ClockTable {
         }
         let zone = zone.to_plain();
         let changes = changes_in(alloc, zone, first, last)?;
-        ClockTable::new(shown_at(zone, first).ahead, changes)
+        ClockTable::new(reading_at(zone, first).ahead, changes)
     }
 }
 
 // A second, and how far a zone's clock is ahead of UTC there.
 #[derive(Clone, Copy)]
-struct Shown {
+struct Reading {
     second: i64,
     ahead: i32,
 }
 
 // What a zone shows at a second.
-fn shown_at(zone: jiff_tz::TimeZone<'_>, second: i64) -> Shown
+fn reading_at(zone: jiff_tz::TimeZone<'_>, second: i64) -> Reading
     requires { IsHeld second }
-    ensures { IsShown zone.entry second result }
+    ensures { IsReading zone.entry second result }
 {
-    Shown {
+    Reading {
         second,
         ahead: zone.to_offset(instant_of(second)).seconds,
     }
@@ -115,9 +115,9 @@ fn add_asked(
     requires { IsWindow first last }
     ensures { IfOk result (λ u. changes.new.items ≡ changes.old.items ++ window_changes zone.entry first last) }
 {
-    let mut shown = shown_at(zone, first);
+    let mut shown = reading_at(zone, first);
     while shown.second < last {
-        let next = shown_at(zone, next_question(zone, shown.second, last));
+        let next = reading_at(zone, next_question(zone, shown.second, last));
         if next.ahead != shown.ahead {
             changes.push((next.second, next.ahead))?;
         }

@@ -27,7 +27,7 @@ pub returns-clause-asked : goal.returns-clause-asked
 returns-clause-asked c real =
     let year = c.ranges.year in
     let length_is = simp (to_z-of_z, year) at c.days_in_month-length.ensures.value in
-    Finds-moved (meaning_of c.args.self.now) c.args.day c.fits.result c.days_in_month-length.result (days_in_month c.args.year c.args.month) c.first_weekday.result (first_from (weekday_index c.args.weekday) c.args.day) length_is c.first_weekday.ensures.value c.fits.ensures
+    Finds-moved (meaning_of c.args.self.now) c.args.day c.fits.result c.days_in_month-length.result (days_in_month c.args.year c.args.month) c.first_from.result (first_from (weekday_index c.args.weekday) c.args.day) length_is c.first_from.ensures.value c.fits.ensures
 
 pub returns-clause-value : goal.returns-clause-value
 returns-clause-value c =
@@ -37,10 +37,10 @@ returns-clause-value c =
     let real = some.0 (c.is_none.ensures ∙ ap not c.if-is_none.false) in
     let first = first_from (weekday_index c.args.weekday) c.args.day in
     let len = days_in_month c.args.year c.args.month in
-    let k : IsDayOfMonth len first c.args.day = kind len first c.args.day c.days_in_month-length.result c.first_weekday.result length_is c.first_weekday.ensures.value c.days_in_month-length.ensures.bound c.first_weekday.ensures.bound real.1 in
+    let k : IsDayOfMonth len first c.args.day = kind len first c.args.day c.days_in_month-length.result c.first_from.result length_is c.first_from.ensures.value c.days_in_month-length.ensures.bound c.first_from.ensures.bound real.1 in
     Finds-value (date_answer (meaning_of c.args.self.now) len first c.args.day) c.fits.result (is_day_matching (meaning_of c.args.self.now) len first c.args.day)
     (λ b e. date_is (meaning_of c.args.self.now) len first c.args.day b k e)
-    (Finds-moved (meaning_of c.args.self.now) c.args.day c.fits.result c.days_in_month-length.result len c.first_weekday.result first length_is c.first_weekday.ensures.value c.fits.ensures)
+    (Finds-moved (meaning_of c.args.self.now) c.args.day c.fits.result c.days_in_month-length.result len c.first_from.result first length_is c.first_from.ensures.value c.fits.ensures)
 
 pub returns-clause-shaped : goal.returns-clause-shaped
 returns-clause-shaped c h real =
@@ -48,7 +48,7 @@ returns-clause-shaped c h real =
     let length_is = simp (to_z-of_z, year) at c.days_in_month-length.ensures.value in
     let first = first_from (weekday_index c.args.weekday) c.args.day in
     let len = days_in_month c.args.year c.args.month in
-    let k : IsDayOfMonth len first c.args.day = kind len first c.args.day c.days_in_month-length.result c.first_weekday.result length_is c.first_weekday.ensures.value c.days_in_month-length.ensures.bound c.first_weekday.ensures.bound real.1 in
+    let k : IsDayOfMonth len first c.args.day = kind len first c.args.day c.days_in_month-length.result c.first_from.result length_is c.first_from.ensures.value c.days_in_month-length.ensures.bound c.first_from.ensures.bound real.1 in
     Finds-some (is_day_matching (meaning_of c.args.self.now) len first c.args.day) (date_answer (meaning_of c.args.self.now) len first c.args.day) c.fits.result
     (date_answered (meaning_of c.args.self.now) len first c.args.day h k)
-    (Finds-moved (meaning_of c.args.self.now) c.args.day c.fits.result c.days_in_month-length.result len c.first_weekday.result first length_is c.first_weekday.ensures.value c.fits.ensures)
+    (Finds-moved (meaning_of c.args.self.now) c.args.day c.fits.result c.days_in_month-length.result len c.first_from.result first length_is c.first_from.ensures.value c.fits.ensures)

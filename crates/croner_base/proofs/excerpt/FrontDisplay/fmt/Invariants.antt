@@ -3,7 +3,7 @@ use Rattle.std.specs.Fmt.{HasWritten, IsPlainFormatter}
 use Rattle.std.specs.Str.{chars}
 use Rattle.std.specs.Str.Iter.{chars_rest}
 use Rattle.croner_base.specs.Excerpt.{all_shown}
-use Rattle.croner_base.proofs.excerpt.ShownDisplay.fmt.Given as goal
+use Rattle.croner_base.proofs.excerpt.FrontDisplay.fmt.Given as goal
 
 abbrev pub invariant-loop-left : goal.invariant-loop-left
 invariant-loop-left g l =

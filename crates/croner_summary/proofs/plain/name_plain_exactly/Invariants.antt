@@ -1,6 +1,6 @@
 use Rattle.std.proofs.Common.{◌+◌, ◌-◌, ◌≤◌}
 use Rattle.croner_summary.specs.Private.Exact.{AgreeWithin}
-use Rattle.croner_summary.proofs.plain.are_exact.Given as goal
+use Rattle.croner_summary.proofs.plain.name_plain_exactly.Given as goal
 
 abbrev pub invariant-loop-from : goal.invariant-loop-from
 invariant-loop-from l = record {

@@ -4,7 +4,7 @@ use Rattle.std.proofs.Output.{writes_in_calls_nil, has_written_append, has_writt
 use Rattle.std.specs.Str.{chars}
 use Rattle.croner_base.specs.Excerpt.{shown}
 use Rattle.croner_base.proofs.texts.ExcerptLengths.{one_more_shown, none_more_shown}
-use Rattle.croner_base.proofs.excerpt.ShownDisplay.fmt.Goals as goal
+use Rattle.croner_base.proofs.excerpt.FrontDisplay.fmt.Goals as goal
 
 pub loop-left-init : goal.loop-left-init
 loop-left-init g c = (

@@ -1,6 +1,6 @@
 use Rattle.std.proofs.Common.{sym, ◌∙◌}
 use Rattle.croner_summary.proofs.Exactly.{agree_more, same_answers}
-use Rattle.croner_summary.proofs.exact.are_exact.Goals as goal
+use Rattle.croner_summary.proofs.exact.name_exactly.Goals as goal
 
 pub loop-value-preserved : goal.loop-value-preserved
 loop-value-preserved c =
