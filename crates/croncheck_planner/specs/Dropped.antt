@@ -1,10 +1,9 @@
 -- The jobs of a plan that lack a start where the clock is put forward. Sources: docs/CRONTAB.md ("What a plan answers", "Where the clock
 -- changes").
-use Rattle.std.specs.Prelude.{◌≡◌, ℕ, ◌+◌, List, [], ◌∷◌, ◌++◌, Option, Some, None, if◌then◌else◌}
+use Rattle.std.specs.Prelude.{◌≡◌, ◌<◌, ℕ, ◌+◌, List, [], ◌∷◌, ◌++◌, Option, Some, None, length, get_or, if◌then◌else◌}
 use Rattle.croner_base.specs.declared.time.table.TableTime.{TableTime}
 use Rattle.croner_base.specs.TableZone.{table_moment}
 use Rattle.croner.specs.Views.{job_of}
-use Rattle.crontab.specs.Checked.{TakesInTurn}
 use Rattle.cronplan_forms.specs.declared.view.Dropped.{Dropped}
 use Rattle.cronplan_jobs.specs.declared.listing.Schedule.{Schedule}
 use Rattle.cronplan_jobs.specs.declared.listing.Schedule.TheVariants as schedules
@@ -24,17 +23,16 @@ abbrev pub dropped_by : ℕ → Option Met → List Dropped
 dropped_by place None = []
 dropped_by place (Some met) = if is_warned met then record { job = place; second = met.meeting.change.instant } ∷ [] else []
 
--- the place of the next job, and the jobs before it that lack a start
-pub record Looked : Type 0 where
-  pub place : ℕ
-  pub dropped : List Dropped
+-- of the jobs from a place on, by their first changes
+abbrev pub dropped_from : ℕ → List (Option Met) → List Dropped
+dropped_from place [] = []
+dropped_from place (met ∷ mets) = dropped_by place met ++ dropped_from (place + 1) mets
 
--- one job more
-abbrev pub LooksAt : TableTime → Looked → Schedule → Looked → Type 0
-LooksAt start old job new =
-    (met : Option Met) × IsGapOf start job met × (new ≡ record { place = old.place + 1; dropped = old.dropped ++ dropped_by old.place met })
+-- each job has its first change, at the same place
+pub record AreGapsOf (start : TableTime) (jobs : List Schedule) (mets : List (Option Met)) : Type 0 where
+  pub beside : length mets ≡ length jobs
+  pub gaps_are : (place : ℕ) (job : Schedule) (met : Option Met) → place < length jobs → IsGapOf start (get_or jobs place job) (get_or mets place met)
 
--- those of all jobs, in their order
+-- the jobs that lack a start, in their order
 abbrev pub AreDropped : TableTime → List Schedule → List Dropped → Type 0
-AreDropped start jobs dropped =
-    (place : ℕ) × TakesInTurn (LooksAt start) (record { place = 0; dropped = [] }) jobs (record { place = place; dropped = dropped })
+AreDropped start jobs dropped = (mets : List (Option Met)) × AreGapsOf start jobs mets × (dropped ≡ dropped_from 0 mets)

@@ -10,8 +10,6 @@ use Rattle.croner_base.specs.Civil.{wall_second}
 use Rattle.croner_base.specs.Clocked.{IsAtSecond}
 use Rattle.croner_base.specs.TableZone.{table_moment}
 use Rattle.croner_base.specs.Zone.{Zone, Moment, Names, IsResolved, IsUnheld, IsMoved}
-use Rattle.croner_base.proofs.clocks.Seconds.{table_held}
-use Rattle.croner_base.proofs.tables.TableTests.{between_test}
 use Rattle.croner_backends.specs.declared.narrow.NarrowTime.{NarrowTime}
 use Rattle.croner_backends.specs.Narrow.{is_between, is_held, narrow}
 use Rattle.croner_backends.specs.NarrowMoment.{narrow_moment, narrow_second}
@@ -125,9 +123,6 @@ kept_at t x s None m h e =
     let none : Option NarrowTime = None in
     let b : is_between t.low t.high x.second ≡ false = none_false none _ refl h in
     let out : is_between t.low t.high s ≡ false = rw i at b in rw out refl
-
-pub holds_second : (t : NarrowTime) → (narrow_moment t).zone.holds (narrow_moment t).instant ≡ true
-holds_second t = rw (between_test t.low t.high t.time.second t.from t.to) (table_held t.time)
 
 pub not_at : (t : NarrowTime) (s : ℤ) → IsAtSecond table_moment (table_moment t.time).zone s None → IsAtSecond narrow_moment (narrow_moment t).zone s None
 not_at t s m = both_false _ _ m

@@ -94,7 +94,7 @@ impl<'t> CronDateTime for AskingTime<'t> {
 
 /// The seconds of the table.
 impl<'t> Clocked for AskingTime<'t> {
-    ghost use Rattle.croner_base.proofs.clocks.Seconds.{table_held};
+    ghost use Rattle.croner_base.specs.HeldSeconds.{table_held};
 
     fn second(&self) -> i64 {
         self.time.second()

@@ -191,7 +191,7 @@ impl<'t> CronDateTime for NarrowTime<'t> {
 
 /// The seconds that are held.
 impl<'t> Clocked for NarrowTime<'t> {
-    ghost use Rattle.croner_backends.proofs.Narrowed.{holds_second};
+    ghost use Rattle.croner_backends.specs.NarrowHeld.{narrow_held};
 
     fn second(&self) -> i64 {
         self.time.second()
@@ -205,5 +205,5 @@ impl<'t> Clocked for NarrowTime<'t> {
         }
     }
 
-    ghost holds_its_second = { λ t. holds_second t };
+    ghost holds_its_second = { λ t. narrow_held t };
 }

@@ -1,5 +1,5 @@
 -- The values of the three clocks at whole seconds.
-use Rattle.std.proofs.Common.{◌≡◌, true, false, arith, ℤ, pos, ◌*ℤ◌, Some, None, unsigned_abs}
+use Rattle.std.proofs.Common.{◌≡◌, false, arith, ℤ, pos, ◌*ℤ◌, Some, None, unsigned_abs}
 use Rattle.std.specs.Int.{int_div_euclid, int_rem_euclid}
 use Rattle.jiff.specs.ZonedView.{plain_zoned}
 use Rattle.jiff.specs.declared.zoned.Zoned.{Zoned}
@@ -9,7 +9,7 @@ use Rattle.jiff_core.specs.declared.civil.datetime.DateTime.{DateTime}
 use Rattle.jiff_core.proofs.SignedLemmas.{signed_arith}
 use Rattle.jiff_core.proofs.DateTimeLemmas.{civil_nanos-civil_seconds, civil_nanos_range}
 use Rattle.croner_base.specs.declared.time.table.TableTime.{TableTime}
-use Rattle.croner_base.specs.CivilZone.{civil_moment, civil_zone, is_jiff_second}
+use Rattle.croner_base.specs.CivilZone.{civil_moment, civil_zone}
 use Rattle.croner_base.specs.Clocked.{IsAtSecond}
 use Rattle.croner_base.specs.Table.{is_table_second}
 use Rattle.croner_base.specs.TableZone.{clock, table_moment}
@@ -28,12 +28,6 @@ civil_at s dt h =
       is_jiff_second-true s (omega (arith, signed_arith, h, range)) (omega (arith, signed_arith, h, range)),
     )
 
-pub civil_held : (dt : DateTime) → is_jiff_second (civil_seconds dt) ≡ true
-civil_held dt =
-    let range = civil_nanos_range dt in
-    is_jiff_second-true (civil_seconds dt) (omega (arith, signed_arith, civil_nanos-civil_seconds dt, dt.time.subsec_in, range))
-    (omega (arith, signed_arith, civil_nanos-civil_seconds dt, dt.time.subsec_in, range))
-
 pub civil_not_at : (s : ℤ) → (IsCivilNanos (s *ℤ pos 1_000_000_000) → ⊥) → IsAtSecond civil_moment civil_zone s None
 civil_not_at s h =
     is_jiff_second-false s (λ low high. h (omega (arith, signed_arith), omega (arith, signed_arith)))
@@ -51,12 +45,6 @@ zoned_at a b s h z =
           (omega (arith, signed_arith, h, (plain_zoned b).timestamp.in_range)),
     )
 
-pub zoned_held : (z : Zoned) → (value_moment z).zone.holds (value_moment z).instant ≡ true
-unfolding zoned_zone
-zoned_held z =
-    is_timestamp_second-true (int_div_euclid (plain_zoned z).timestamp.nanosecond (pos 1_000_000_000))
-    (omega (arith, signed_arith, (plain_zoned z).timestamp.in_range)) (omega (arith, signed_arith, (plain_zoned z).timestamp.in_range))
-
 pub zoned_not_at : (a : Zoned) (s : ℤ) → (IsTimestampNanos (s *ℤ pos 1_000_000_000) → ⊥) → IsAtSecond value_moment (value_moment a).zone s None
 unfolding zoned_zone
 zoned_not_at a s h =
@@ -66,10 +54,6 @@ zoned_not_at a s h =
 pub table_at : (t x : TableTime) (s : ℤ) → x.second ≡ s → x.table.now ≡ t.table.now → IsAtSecond table_moment (table_moment t).zone s (Some x)
 unfolding clock
 table_at t x s e same = (rw (same, e), rw (← e) x.held)
-
-pub table_held : (t : TableTime) → (table_moment t).zone.holds (table_moment t).instant ≡ true
-unfolding clock
-table_held t = t.held
 
 pub table_not_at : (t : TableTime) (s : ℤ) → is_table_second s ≡ false → IsAtSecond table_moment (table_moment t).zone s None
 unfolding clock

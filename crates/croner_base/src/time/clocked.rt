@@ -42,7 +42,7 @@ pub trait Clocked: CronDateTime {
 
 /// The years -9999 to 9999.
 impl Clocked for DateTime {
-    ghost use Rattle.croner_base.proofs.clocks.Seconds.{civil_held};
+    ghost use Rattle.croner_base.specs.HeldSeconds.{civil_held};
     ghost use Rattle.croner_base.specs.CivilZone.{civil_moment};
     ghost use Rattle.croner_base.specs.Clocked.{IsAtSecond};
 
@@ -63,7 +63,7 @@ impl Clocked for DateTime {
 
 /// The seconds of `jiff`'s instants, -377,705,023,201 to 253,402,207,200.
 impl<'a> Clocked for Zoned<'a> {
-    ghost use Rattle.croner_base.proofs.clocks.Seconds.{zoned_held};
+    ghost use Rattle.croner_base.specs.HeldSeconds.{zoned_held};
 
     fn second(&self) -> i64 {
         self.timestamp().to_plain().floor_second()
@@ -82,7 +82,7 @@ impl<'a> Clocked for Zoned<'a> {
 
 /// The seconds of the UTC years -9999 to 9999.
 impl<'t> Clocked for TableTime<'t> {
-    ghost use Rattle.croner_base.proofs.clocks.Seconds.{table_held};
+    ghost use Rattle.croner_base.specs.HeldSeconds.{table_held};
 
     fn second(&self) -> i64 {
         TableTime::second(self)
