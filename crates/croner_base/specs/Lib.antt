@@ -7,6 +7,7 @@ pub mod Clocked
 pub mod CivilZone
 pub mod ZonedZone
 pub mod ZonedValue
+pub mod HeldSeconds
 pub mod Limits
 pub mod Calm
 pub mod Table
