@@ -1,11 +1,16 @@
 -- Worked rows of plans: what jobs are called, how much of what was found a list has, and how it ends.
-use Rattle.std.proofs.Common.{◌≡◌, ℕ, ℤ, pos, Bool, List, [], ◌∷◌, true, false, None, Some, refl}
+use Rattle.std.proofs.Common.{◌≡◌, ℕ, ℤ, pos, Bool, List, [], ◌∷◌, true, false, Option, None, Some, refl}
 use Rattle.std.specs.Fmt.{digits}
 use Rattle.std.specs.Prelude.{codes}
 use Rattle.crontab.specs.Line.{Line, never, blank, comment, job, pattern}
 use Rattle.cronplan.specs.declared.start.JobStart.{JobStart}
 use Rattle.cronplan_forms.specs.declared.asked.PlanAsked.{PlanAsked}
+use Rattle.croncheck_changes.specs.declared.changes.Fate.{Fate}
+use Rattle.croncheck_changes.specs.declared.changes.Fate.TheVariants as fates
+use Rattle.croncheck_changes.specs.declared.changes.Range.TheVariants as ranges
+use Rattle.croncheck_changes.specs.declared.changes.meetings.Met.{Met}
 use Rattle.croncheck_runs.specs.declared.runs.Listing.TheVariants as listings
+use Rattle.croncheck_planner.specs.Dropped.{dropped_from}
 use Rattle.croncheck_planner.specs.Plan.{first_after, end_after, whole_end, end_up_to, starts_within}
 use Rattle.croncheck_planner.specs.PlanAnswers.{clock_head, unfollowed_text}
 use Rattle.croncheck_planner.specs.PlanList.{over_text, more_text, whose_by_kinds, line_text}
@@ -146,3 +151,28 @@ above_answers = refl
 in_place_of_answers : unfollowed_text (codes "Europe/Paris") ≡ codes "the clock of Europe/Paris isn't followed in these days\n"
 unfolding unfollowed_text
 in_place_of_answers = refl
+
+-- ---- jobs that lack a start
+
+-- what becomes of the start at 02:00 in Stockholm on 2025-03-30, where the clock goes on to 03:00
+abbrev in_spring : Fate → Option Met
+in_spring fate = Some (record {
+  meeting = record {
+    change = record { instant = pos 1_743_296_400; before = pos 1_743_300_000; after = pos 1_743_303_600 };
+    range = ranges.Gap;
+    second = pos 1_743_300_000;
+    fate = fate;
+  };
+  is_due_beside = false;
+})
+
+-- of four jobs the second one lacks it: the others have none there, or it is made up for
+one_of_four : dropped_from 0 (None ∷ in_spring fates.LeftOut ∷ in_spring fates.Moved ∷ None ∷ []) ≡ record { job = 1; second = pos 1_743_296_400 } ∷ []
+one_of_four = refl
+
+two_of_three : dropped_from 0 (in_spring fates.LeftOut ∷ None ∷ in_spring fates.LeftOut ∷ [])
+    ≡ record { job = 0; second = pos 1_743_296_400 } ∷ record { job = 2; second = pos 1_743_296_400 } ∷ []
+two_of_three = refl
+
+of_no_job : dropped_from 0 [] ≡ []
+of_no_job = refl
