@@ -29,14 +29,14 @@ pub civil_held : (dt : DateTime) → IsHeld (civil_moment dt)
 civil_held dt =
     let range = civil_nanos_range dt in
     between first_instant last_instant (civil_seconds dt) (omega (arith, signed_arith, civil_nanos-civil_seconds dt, dt.time.subsec_in, range))
-        (omega (arith, signed_arith, civil_nanos-civil_seconds dt, dt.time.subsec_in, range))
+    (omega (arith, signed_arith, civil_nanos-civil_seconds dt, dt.time.subsec_in, range))
 
 pub zoned_held : (z : Zoned) → IsHeld (value_moment z)
 unfolding zoned_zone
 zoned_held z =
     let range = (plain_zoned z).timestamp.in_range in
     between first_timestamp last_timestamp (int_div_euclid (plain_zoned z).timestamp.nanosecond (pos 1_000_000_000)) (omega (arith, signed_arith, range))
-        (omega (arith, signed_arith, range))
+    (omega (arith, signed_arith, range))
 
 pub table_held : (t : TableTime) → IsHeld (table_moment t)
 unfolding clock
