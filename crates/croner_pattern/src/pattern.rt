@@ -213,7 +213,7 @@ impl CronPattern {
     /// The least plain value of the seconds, minutes or hours from `value` on (forward), or the greatest up to it
     /// (backward); `None` where there is none.
     ///
-    /// `ComponentError` for another component, and for a value above the field's maximum. A field without the shape of
+    /// `ComponentError` for any other component, and for a value above the field's maximum. A field without the shape of
     /// its place also refuses a forward search from below its minimum, and any search if its maximum is 0.
     /// `OutOfMemory` where there is no memory for the message.
     ///
