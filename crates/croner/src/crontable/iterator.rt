@@ -68,8 +68,8 @@ impl<'t, T: CronDateTime> CronTableIterator<'t, T> {
         }
     }
 
-    /// The error, other than the limit, that ended the last call of `next`. `None` where that call gave an item or reached
-    /// the limit, and before the first call.
+    /// The error, other than `TimeSearchLimitExceeded`, that ended the last call of `next`. `None` where that call gave an item
+    /// or ended in `TimeSearchLimitExceeded`, and before the first call.
     ///
     /// ```
     /// let mut table = CronTable::new(alloc);

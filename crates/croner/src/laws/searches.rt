@@ -17,9 +17,9 @@ use croner_base::time::{CivilDateTime, CronDateTime, Direction};
 
 /// What a search finds, and what `is_time_matching` says of it.
 ///
-/// The second value is whether what the zone's clock shows at the first is scheduled. It is true for an interval job, and for
-/// every job if the zone resolves each second that it holds to one instant. It is false at a fixed-time job's run that is
-/// carried across a gap, since nothing is scheduled there.
+/// The second value says whether the zone's clock shows a scheduled second at the first. It is true for an interval job, and
+/// for every job if the zone resolves each second that it holds to one instant. It is false at a fixed-time job's run that
+/// is carried across a gap, since nothing is scheduled there.
 pub fn found_and_matching<T: CronDateTime>(
     job: &Cron,
     start: &T,
