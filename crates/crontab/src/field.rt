@@ -41,14 +41,15 @@ pub struct FieldBounds {
     pub names: Names,
 }
 
-/// A part of a field: the values from the first to the last, step by step. One whose range runs down names nothing.
+/// A part of a field: the values from the first to the last, step by step. A part whose first is above its last
+/// names nothing.
 #[derive(Clone, Copy)]
 pub struct Part {
-    /// It was written as a star.
+    /// Whether it was written as a star.
     pub is_star: bool,
-    /// The first value, within its field's.
+    /// The first value, within the bounds of its field.
     pub first: u64,
-    /// The greatest value that it may have, within its field's.
+    /// The greatest value that it may have, within the bounds of its field.
     pub last: u64,
     /// How far apart its values are: 1 to 2^31 - 1.
     pub step: u64,
