@@ -80,7 +80,7 @@ fn in_own_day<P: PatternWords>(
     }
 }
 
-/// Whether a date matches.
+/// Whether a date matches: its year and its month are named, and its day fits the two day fields.
 pub fn matches_date<P: PatternWords>(pattern: &P, date: CivilDate) -> bool
     requires { has_field_shapes (P.meaning pattern.now) ≡ true }
     ensures { result ≡ is_date_matching (P.meaning pattern.now) date }
