@@ -269,7 +269,8 @@ fn part_from_value(bounds: FieldBounds, first: u64, rest: &[u8]) -> Option<(Part
     )
 }
 
-/// The part that a text begins with, and what follows it; `None` unless the part's bounds lie within the field's.
+/// The part that a text begins with, and what follows it. `None` where it begins with no part, where the part's
+/// first or last value isn't within the bounds of the field, and where its step is 0 or too large for cron.
 pub fn part_of(bounds: FieldBounds, text: &[u8]) -> Option<(Part, &[u8])>
     ensures { option_map (λ p. (p.0, p.1.now)) result ≡ part_of bounds text.now }
 {
