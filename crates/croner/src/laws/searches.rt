@@ -65,8 +65,8 @@ pub fn found_and_shown<T: CronDateTime>(
 ///
 /// Its errors are `TimeSearchLimitExceeded` (the limit), `InvalidDate`, `InvalidTime` and, only over a backend that can lack
 /// memory, `OutOfMemory`. In a calm zone from a whole second the limit means that no run is left in the searched years. If the
-/// backend also holds what a search needs, the only errors are the limit and lack of memory. From a start whose clock shows
-/// year 5001 or later (forward), or year 0 or earlier (backward), the answer is the limit, in every zone and over every backend.
+/// backend also holds what a search needs, the only errors are the limit and lack of memory. From a start whose clock shows year
+/// 5001 or later (forward), or year 0 or earlier (backward), the answer is the limit, in every zone and over every backend.
 pub fn found_or_refused<T: CronDateTime>(
     job: &Cron,
     start: &T,
