@@ -1,4 +1,4 @@
-//! The plan of the jobs of all files: what starts after the start of a call.
+//! The plan of the jobs of all files: the starts of these jobs that come after a given time.
 ghost use Rattle.std.specs.Prelude.{◌≡◌, ◌≤◌, length, None, true, false, int_lt, IfOk};
 ghost use Rattle.croner_base.specs.Table.{is_table_second};
 ghost use Rattle.croner_base.specs.TableZone.{table_zone};

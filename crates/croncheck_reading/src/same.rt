@@ -1,4 +1,4 @@
-//! The jobs that were seen, of which each has one place: that of the first that is the same.
+//! The jobs that were seen, to find those that repeat an earlier one: for each, the place where it came first.
 ghost use Rattle.std.specs.Prelude.{◌≡◌, true, false, Option, None, Some, option_map, string_bytes, IfOk, OnOk, OnErr, if◌then◌else◌};
 ghost use Rattle.croner.specs.Views.{job_of as meaning_of_job};
 ghost use Rattle.crontab.specs.Entries.{entry_seen};
@@ -38,9 +38,10 @@ impl Seen {
         }
     }
 
-    /// The place of the first job that is the same as that of an entry, of which the parser makes this: its times have the same meaning, and
-    /// its user and its command have the same bytes. Where there is none, this one is kept, with its place. Nothing is found and nothing kept where the settings compare no
-    /// jobs, or the entry has no job or one without times. An error leaves what was kept.
+    /// The place of the first job that is the same as the job of an entry: its times have the same meaning, and its user and its command
+    /// have the same bytes. `outcome` is what the parser makes of the entry. Where there is no such job, this one is kept, with its
+    /// place. Nothing is found and nothing is kept where the settings compare no jobs, or the entry has no job or one without times. An
+    /// error leaves what was kept.
     pub fn first_same(
         &mut self,
         alloc: Global,

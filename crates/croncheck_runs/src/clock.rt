@@ -1,4 +1,4 @@
-//! The clock that runs are listed on: a zone's, over the years that are checked.
+//! The clock on which runs are listed: that of a zone, from some days before the start to the end of the searched years.
 ghost use Rattle.std.specs.Prelude.{◌≡◌, ◌≤◌, not, IfOk, IfErr, IfSome, pos, ◌+ℤ◌, ◌-ℤ◌, ◌<ℤ◌, ◌≤ℤ◌};
 ghost use Rattle.std.specs.Bool.{OnTrue, OnFalse};
 ghost use Rattle.jiff.specs.ZoneView.{plain_zone};

@@ -1,4 +1,4 @@
-//! The runs of a pattern from a start, or what cron starts of a crontab's job.
+//! The runs of a pattern from a start on; or, of a crontab's job, the seconds at which cron starts it.
 ghost use Rattle.std.specs.Prelude.{◌≡◌, ℤ, List, Option, IfOk, IfErr, ◌≤ℤ◌, map, option_map, true};
 ghost use Rattle.std.specs.List.{All, Contains};
 ghost use Rattle.jiff_tz.specs.declared.timezone.TimeZone.{TimeZone};

@@ -39,7 +39,7 @@ pub const SAME_JOB: &str = "same-job";
 /// What is to be said of a job or a pattern. Its [`name`](Warning::name) and [`text`](Warning::text) say it in words.
 #[derive(Clone, Copy, Drop)]
 pub enum Warning {
-    /// Neither day field is a star, and a day has to match one of them alone.
+    /// Neither day field is a star, a day needs to match only one of them, and at least one of them doesn't name each day.
     EitherDay,
     /// Seconds, minutes or hours are `*/n`, and n is below 60, 60 or 24 and doesn't divide it.
     UnevenStep(PatternField),

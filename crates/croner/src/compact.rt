@@ -1,4 +1,4 @@
-//! A job in few words, for those who keep many.
+//! Compact jobs, for those who keep many.
 
 mod made;
 mod parts;
@@ -18,10 +18,10 @@ use years::Years;
 
 /// A cron job in 64 bytes, without its text: when it runs, and nothing else.
 ///
-/// Made of a [`Cron`](crate::Cron) it runs whenever that job does. Its memory is those 64 bytes, and a piece on the heap only
-/// where the years are neither all nor one run of years. Jobs compare, and are hashed, by the values that they name, by
-/// their flags and their kind: `*` and `0-59` are equal here. Years that are neither all nor one run compare as they are
-/// written: `2024,2026` and `2024-2026/2` differ.
+/// Made of a [`Cron`](crate::Cron), it runs exactly when that job does. Its memory is those 64 bytes, and a piece on the heap
+/// only where the years are neither all years nor one range of consecutive years. Two of these jobs are equal if they name the
+/// same values and have the same flags and kind: `*` and `0-59` are equal here. Years that need a piece on the heap are
+/// compared as they are written: `2024,2026` and `2024-2026/2` differ.
 #[derive(Debug, Drop, PartialEq, Eq, Hash)]
 pub struct CompactCron {
     seconds: u64,
@@ -51,8 +51,8 @@ impl CompactCron {
     ghost use Rattle.croner.specs.search.PatternJob.{timetable_of};
     ghost use Rattle.croner.specs.Views.{job_of};
 
-    /// The job in few words. The only error is `OutOfMemory`, and it comes only where the years are neither all nor one run of
-    /// years.
+    /// The job in its compact form. The only error is `OutOfMemory`, and it comes only where the years are neither all years
+    /// nor one range of consecutive years.
     ///
     /// ```
     /// let job = Cron::from_str(alloc, "30 9 * * MON-FRI")?;
@@ -69,7 +69,7 @@ impl CompactCron {
         Ok(compact_cron(alloc, cron, years))
     }
 
-    /// Which kind of job it is: as that of which it was made.
+    /// Which kind of job it is: that of the job of which it was made.
     ///
     /// ```
     /// let daily = CompactCron::of(alloc, &Cron::from_str(alloc, "30 9 * * *")?)?.determine_job_type(); // JobType::FixedTime

@@ -35,9 +35,9 @@ impl<T: CronDateTime> CronIterator<T> {
     ghost use Rattle.croner.specs.iterator.Listing.{standing_of, new_standing, counts_position, moved, Settles};
     ghost use Rattle.croner.specs.search.Refusal.{IsRefusal};
 
-    /// An iterator from a start, which counts as that of a search does: only if `inclusive` is true, and forward not if a run is
-    /// only carried to it. It keeps the job and the start as they are: this takes no memory, and no search is made before the
-    /// first call of `next`.
+    /// An iterator from a start. The start itself counts as in a search: only if `inclusive` is true. A forward iterator doesn't
+    /// count it even then if the run there is only carried to it across a gap. The iterator keeps the job and the start as they
+    /// are: this takes no memory, and no search is made before the first call of `next`.
     ///
     /// ```
     /// let job = Cron::from_str(alloc, "0 0 1 * *")?;
@@ -59,8 +59,8 @@ impl<T: CronDateTime> CronIterator<T> {
         }
     }
 
-    /// The error, other than the limit, that ended the last call of `next`. `None` where that call gave an item or reached
-    /// the limit, and before the first call.
+    /// The error, other than `TimeSearchLimitExceeded`, that ended the last call of `next`. `None` where that call gave an item
+    /// or ended in `TimeSearchLimitExceeded`, and before the first call.
     ///
     /// ```
     /// let job = Cron::from_str(alloc, "0 0 0 1 1 * 2024")?;

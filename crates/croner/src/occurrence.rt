@@ -15,9 +15,10 @@ use croner_base::time::{CivilDateTime, CronDateTime, Direction};
 impl Cron {
     /// The next run after a time, or from it on if the search is inclusive, in the time's zone.
     ///
-    /// An interval job runs at each instant at which the clock reads a scheduled second, in both halves of a repeated range. A
-    /// fixed-time job runs only at the earlier instant of a repeated second; its run in a gap is carried to the gap's end, if the
-    /// date there matches. A run that is only carried to the start itself isn't given.
+    /// An interval job runs at each instant at which the clock shows a scheduled second, in both halves of a repeated range. A
+    /// fixed-time job ([`JobType`](crate::JobType) says which jobs are of this kind) runs only at the earlier instant of a
+    /// repeated second; its run in a gap is carried to the gap's end, if the date there matches. A run that is only carried to
+    /// the start itself isn't given.
     ///
     /// In a calm zone ([`CronDateTime`] says when a zone is calm) and from a whole second the answer is the nearest run, over
     /// any backend. In every zone and from every start, with a fraction of a second or not, it is a whole second in the
@@ -103,7 +104,7 @@ impl Cron {
         search::find_with_reading(alloc, &self.pattern, start, shown, inclusive, direction)
     }
 
-    /// The runs from a start in a direction; the start counts as in an inclusive search. The pattern is copied for the iterator.
+    /// The runs from a start in a direction. The start counts as in an inclusive search. The pattern is copied for the iterator.
     /// The only error is `OutOfMemory`; the start is then dropped.
     ///
     /// ```

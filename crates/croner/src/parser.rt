@@ -151,7 +151,8 @@ impl CronParser {
     ghost use Rattle.croner.specs.parser.Grammar.{outcome};
     ghost use Rattle.croner.specs.Views.{job_of};
 
-    /// A parser with the default settings: seconds and year optional, and the three switches off.
+    /// A parser with the default settings: seconds and year are optional, and `dom_and_dow`, `alternative_weekdays` and
+    /// `sloppy_ranges` are off.
     ///
     /// ```
     /// let parser = CronParser::new();

@@ -6,8 +6,8 @@ use crate::Cron;
 use croner_base::errors::CronError;
 use croner_base::time::{Clocked, Direction};
 
-/// Something that has runs in each zone, and finds them on clocks of the type `T`. A [`Cron`] is one on every clock. So is an enum of
-/// your own, on the clocks for which all its variants are.
+/// Something that has runs in each zone, and finds them on clocks of the type `T`. A [`Cron`] is one on every clock. An enum of your
+/// own can be one too, on the clocks on which all its variants are.
 ///
 /// An implementation states once which runs it has, and its two searches have to agree with that. In a calm zone
 /// ([`CronDateTime`](crate::CronDateTime) says when a zone is calm) and from a whole second an answer is the nearest

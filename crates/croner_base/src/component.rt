@@ -1,7 +1,8 @@
 //! One field of a pattern: which values it may hold, and which of them a text has marked, with which modifier.
 //!
-//! A value can be marked plain, as one of the first five such weekdays of a month, as the last one, or as the day
-//! whose nearest weekday is meant. Each modifier is one bit, so that one question can ask for several.
+//! A value can be marked plain. A weekday can also be marked as the first to the fifth of a month, or as its last, and
+//! a day of the month as one whose nearest Monday-to-Friday day is meant. Each modifier is one bit, so that one call can
+//! ask for several.
 
 ghost use Rattle.std.specs.Prelude.{◌≡◌, ◌+◌, ◌-◌, ◌≤◌, ◌<◌, ◌==◌, ◌^◌, ℕ, true, length, OnOk, OnErr, IfOk, IfErr, MatchOption};
 ghost use Rattle.std.specs.Int.{bit_at};
@@ -29,28 +30,29 @@ pub const NONE_BIT: u8 = 0;
 /// A plain value, without a modifier.
 pub const ALL_BIT: u8 = 1;
 
-/// The first such weekday of the month: `#1`.
+/// The first of a weekday in the month: `#1`, as in `5#1`.
 pub const NTH_1ST_BIT: u8 = 2;
 
-/// The second such weekday of the month: `#2`.
+/// The second of a weekday in the month: `#2`, as in `5#2`.
 pub const NTH_2ND_BIT: u8 = 4;
 
-/// The third such weekday of the month: `#3`.
+/// The third of a weekday in the month: `#3`, as in `5#3`.
 pub const NTH_3RD_BIT: u8 = 8;
 
-/// The fourth such weekday of the month: `#4`.
+/// The fourth of a weekday in the month: `#4`, as in `5#4`.
 pub const NTH_4TH_BIT: u8 = 16;
 
-/// The fifth such weekday of the month: `#5`.
+/// The fifth of a weekday in the month: `#5`, as in `5#5`.
 pub const NTH_5TH_BIT: u8 = 32;
 
 /// The five bits of the nth weekdays together.
 pub const NTH_ALL: u8 = 62;
 
-/// The last such weekday of the month, or, as a feature of the whole field, the month's last day: `L`.
+/// The last of a weekday in the month, as in `5L` or `5#L`; as a feature of the whole field, the month's last day: `L`.
 pub const LAST_BIT: u8 = 64;
 
-/// The weekday nearest to a day of the month, or, as a feature beside `LAST_BIT`, the month's last weekday: `W`.
+/// The Monday-to-Friday day nearest to a day of the month, as in `15W`; as a feature of the whole field beside
+/// `LAST_BIT`, the month's last Monday-to-Friday day: `LW`.
 pub const CLOSEST_WEEKDAY_BIT: u8 = 128;
 
 /// One field of a pattern: its bounds, the modifiers that it supports, and for each modifier the set of marked values.
@@ -58,7 +60,7 @@ pub const CLOSEST_WEEKDAY_BIT: u8 = 128;
 /// Marks are added by [`parse`](Self::parse), [`handle_stepping`](Self::handle_stepping) and
 /// [`set_bit`](Self::set_bit). The component keeps the allocator given to its constructor, and [`new`](Self::new)
 /// takes the memory for every mark. Later calls allocate only for the message of an error, for a list that they
-/// return, and for a clone whose values do not fit one word.
+/// return, and for a clone if the values don't fit [one word](Self::is_of_one_word).
 ///
 /// ```
 /// let mut minutes = CronComponent::new(alloc, 0, 59, NONE_BIT, 0)?;
@@ -158,7 +160,8 @@ impl CronComponent {
         }
     }
 
-    /// Whether its values fit one word of 64 bits: a clone of such a component takes no memory.
+    /// Whether it holds values and these fit one word of 64 bits: the maximum is from 1 to 63. A clone of such a component
+    /// takes no memory.
     ///
     /// ```
     /// let minutes = CronComponent::new(alloc, 0, 59, NONE_BIT, 0)?;
@@ -172,7 +175,8 @@ impl CronComponent {
         1 <= self.marks.max() && self.marks.max() <= 63
     }
 
-    /// What a clone of a component of one word gives. Takes no memory.
+    /// A copy, as `clone` gives it. Takes no memory. The caller makes sure that the values fit
+    /// [one word](Self::is_of_one_word).
     ///
     /// ```
     /// if minutes.is_of_one_word() {
@@ -221,8 +225,8 @@ impl CronComponent {
         self.marks.max()
     }
 
-    /// The step of the last part with a `/` whose step was read, even if that part was then refused. Before any it is 1, and
-    /// in a default component 0.
+    /// The step of the last part with a `/` whose step was read, even if that part was then refused. Before any such part it
+    /// is 1, and in a default component 0.
     ///
     /// ```
     /// let mut minutes = CronComponent::new(alloc, 0, 59, NONE_BIT, 0)?;
@@ -235,7 +239,8 @@ impl CronComponent {
         self.step
     }
 
-    /// Whether a `*` was read, as the whole field or before a `/`. With sloppy ranges nothing before the `/` counts as one too (`/10`).
+    /// Whether a `*` was read, as the whole field or before a `/`. With sloppy ranges a `/` without a start, as in `/10`, counts
+    /// as one too.
     ///
     /// ```
     /// let mut minutes = CronComponent::new(alloc, 0, 59, NONE_BIT, 0)?;
@@ -349,8 +354,8 @@ impl CronComponent {
         Ok(self.marks.is_set(value, bit))
     }
 
-    /// Enables the features of `feature` for the whole field: `LAST_BIT` for the month's last day,
-    /// and `CLOSEST_WEEKDAY_BIT` besides for its last weekday.
+    /// Enables the features of `feature` for the whole field: `LAST_BIT` for the month's last day, and both `LAST_BIT` and
+    /// `CLOSEST_WEEKDAY_BIT` for its last Monday-to-Friday day.
     ///
     /// `ComponentError` where one of them isn't supported, `OutOfMemory` where there is no memory for its message.
     /// An error leaves the component as it was.

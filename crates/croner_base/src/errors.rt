@@ -23,9 +23,11 @@ pub enum CronError {
     InvalidDate,
     /// There is no such time of day, or the time library doesn't hold it; or a table of offsets, or a second on one, is refused.
     InvalidTime,
-    /// A search reached the end of the years, the limit of its passes, or the limit of its look across a gap.
+    /// A search found no run in the searched years. In a zone that isn't calm, or from a start with a fraction of a second, it
+    /// may also have given up before their end: it looks at a limited number of scheduled seconds, and no further than a day
+    /// for the end of a gap or for the other half of a repeated range.
     TimeSearchLimitExceeded,
-    /// The number of the pattern's fields isn't accepted, or the pattern isn't a text.
+    /// The pattern has a number of fields that isn't accepted, or a JSON value that should be a pattern isn't a string.
     InvalidPattern(String),
     /// A field has a character that it can't have.
     IllegalCharacters(String),

@@ -58,8 +58,8 @@ pub struct CronPattern {
     /// Months, 1 to 12.
     pub months: CronComponent,
     /// Weekdays, 0 for Sunday to 6 for Saturday. The field also has a value 7, which no day matches and which a description
-    /// calls Sunday. Of all that a parser reads, only a lone `*` in Quartz mode leaves 7 marked. The field's own `parse` also
-    /// marks it for `7`, except in Quartz mode.
+    /// calls Sunday. Of all that a parser reads, only a lone `*` or `?` in Quartz mode leaves 7 marked. The field's own
+    /// `parse` marks it wherever a text names 7: as `*`, for example, or, except in Quartz mode, as `7`.
     pub days_of_week: CronComponent,
     /// Years, 1 to 5000.
     pub years: CronComponent,
@@ -213,7 +213,7 @@ impl CronPattern {
     /// The least plain value of the seconds, minutes or hours from `value` on (forward), or the greatest up to it
     /// (backward); `None` where there is none.
     ///
-    /// `ComponentError` for another component, and for a value above the field's maximum. A field without the shape of
+    /// `ComponentError` for any other component, and for a value above the field's maximum. A field without the shape of
     /// its place also refuses a forward search from below its minimum, and any search if its maximum is 0.
     /// `OutOfMemory` where there is no memory for the message.
     ///

@@ -2,8 +2,8 @@
 ghost use Rattle.std.specs.Prelude.{◌≡◌};
 ghost use Rattle.croner_presets.specs.Presets.{kind_of};
 
-/// A way in which a program reads a pattern differently from the parser with its settings. Each is about one form in the text. Where a text
-/// has several of these forms, or is otherwise wrong, another one may decide.
+/// A way in which a program reads a pattern differently from the parser of its preset. Each is about one form in the text. Where a text has
+/// several of these forms, or is otherwise wrong, another form or fault may decide what the program does.
 #[derive(Debug, Clone, Copy, PartialEq, Eq, Drop)]
 pub enum Difference {
     // ---- refused by the program
@@ -61,7 +61,7 @@ pub enum Difference {
     /// Day 0 of a month.
     DayZero,
     // ---- read otherwise by the program
-    /// A star among others in a day field, or with the step 1.
+    /// A star among other parts of a day field, or a star with the step 1 there.
     StarAmongDays,
     /// A range from Sunday to `SUN`.
     SundayToSunday,
@@ -83,7 +83,7 @@ pub enum Difference {
     StepOfName,
     /// A step in a day field with a `?`.
     StepOfOpenDay,
-    /// Days `*/n`.
+    /// Days of the month as `*/n`.
     DayStepFromZero,
 }
 

@@ -1,7 +1,7 @@
 //! What other programs make of a pattern: Kubernetes, GitHub's workflows, Quartz and Spring.
 //!
-//! A [`Preset`] has the settings under which [`CronParser`] comes nearest to a program. For a text [`differences`] lists where that
-//! program still refuses what the parser accepts, accepts what it refuses, or reads it differently.
+//! A [`Preset`] has the settings under which [`CronParser`] comes nearest to a program. For a text, [`differences`] lists where
+//! that program still refuses what the parser accepts, accepts what the parser refuses, or gives it another meaning.
 //!
 //! The versions are: Kubernetes with `robfig/cron` 3.0.1 (`ParseStandard`); GitHub by its documentation; Quartz 2.3.2
 //! (`CronExpression`); Spring up to 5.2 (`CronSequenceGenerator`), since later versions have another parser.

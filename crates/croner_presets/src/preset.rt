@@ -18,7 +18,7 @@ pub enum Preset {
     Spring,
 }
 
-/// All of them.
+/// All presets.
 pub const PRESETS: [Preset; 4] = [
     Preset::Kubernetes,
     Preset::Github,
@@ -39,7 +39,7 @@ impl Preset {
         }
     }
 
-    /// The preset with that name, in lower case.
+    /// The preset with that name, in lower case; `None` if there is none.
     pub fn of_name(name: &str) -> Option<Preset>
         ensures { MatchOption result (IsNoName name.now) (λ preset. name.now ≡ name_of preset) }
     {
@@ -52,9 +52,9 @@ impl Preset {
         }
     }
 
-    /// The parser that comes nearest to the program. Kubernetes and GitHub have five fields, and steps may follow a number. Quartz has
-    /// seconds, optional years, weekdays from 1 for Sunday, and such steps. Spring has seconds, no years, such steps, and a day has to
-    /// match both day fields.
+    /// The parser that comes nearest to the program. For each of them a step may follow a number, as in `5/10`. Kubernetes and GitHub
+    /// have five fields. Quartz has seconds, optional years, and weekdays from 1 for Sunday. Spring has seconds and no years, and a
+    /// day has to match both day fields.
     pub fn parser(self) -> CronParser
         ensures { result ≡ settings_of self }
     {

@@ -1,4 +1,4 @@
-//! The results of adding a job, or of putting it in another's place.
+//! The results of adding a job, or of putting a job in another's place.
 
 ghost use Rattle.std.specs.Prelude.{◌≡◌};
 ghost use Rattle.croner_scheduler.specs.Calls.{IsHandedBack};

@@ -8,7 +8,7 @@ use croner::{Clocked, Recurring};
 
 /// Which runs of a job a scheduler gives, whatever calls are made from now on, in whatever order, with whatever `now`s, and whatever
 /// happens to other jobs meanwhile. The function does nothing; its clauses are the law. It applies to a program through the contracts of
-/// the calls, which say what a scheduler holds before and after each. An `add_from` counts as an `Add` at the second before its start,
+/// the calls, which say what a scheduler holds before and after each. An `add_from` counts as an `add` at the second before its start,
 /// and a refused call as one that changes nothing.
 ///
 /// A job that neither `remove` nor `replace` takes away is the same job in the same zone after the calls. Its position is where the last
@@ -24,7 +24,7 @@ use croner::{Clocked, Recurring};
 ///
 /// In a calm zone a job's runs up to its position are given once each, in order, except those passed over. This holds from the `add`
 /// or the `replace` that brings the job to the call that takes it away. No run is given under its id before its `add`, nor after its
-/// removal. At a `replace` the runs given of the first job come before those of the other.
+/// removal. At a `replace` the runs given of the old job come before those of the new one.
 pub fn gives_in_turn<J: Recurring<T>, T: Clocked>(scheduler: &Scheduler<J, T>)
     ensures given { GivesInTurn J.runs (held_of T.moment scheduler.now) }
     ensures gone { StaysGone J.runs (held_of T.moment scheduler.now) }

@@ -24,6 +24,6 @@ pub use stops::Stops;
 pub use turns::Due;
 pub use waiting::{Refusal, Stop, Waiting};
 
-/// A scheduler of jobs in few words, for those who have many: a `Cron` takes 872 bytes in it and 1,264 more on the heap, a
+/// A scheduler of compact jobs, for those who have many: a `Cron` takes 872 bytes in it and 1,264 more on the heap, a
 /// [`CompactCron`] 64.
 pub type CompactScheduler<T> = Scheduler<CompactCron, T>;

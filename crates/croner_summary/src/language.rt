@@ -78,9 +78,9 @@ pub enum Term {
     DatedThe,
     /// Before the weekdays to which other days are limited.
     ButOnly,
-    /// After `ButOnly`, before weekdays that are meant each time they occur.
+    /// After `ButOnly`, before such weekdays that are meant each time they occur.
     OnlyEach,
-    /// After a weekday there.
+    /// After each of those weekdays.
     OnlyEnd,
     /// After a weekday that follows `FirstTime` to `LastTime`.
     NthEnd,
@@ -126,18 +126,18 @@ pub enum Term {
     AndInYears,
     /// No second is named, so nothing is scheduled.
     NoSecond,
-    /// No minute.
+    /// The same for minutes.
     NoMinute,
-    /// No hour.
+    /// The same for hours.
     NoHour,
-    /// No month.
+    /// The same for months.
     NoMonth,
-    /// No year.
+    /// The same for years.
     NoYear,
-    /// No day of the month.
+    /// No day of the month is named.
     NoMonthDay,
-    /// No weekday.
+    /// No weekday is named.
     NoWeekday,
-    /// No day of the month and no weekday.
+    /// No day of the month and no weekday is named.
     NoDay,
 }

@@ -1,4 +1,4 @@
-//! Finds words for some values. What they name is tested where they are used, so nothing relies on this file.
+//! Finds pieces for some values. Whether they name exactly these is tested where they are used, so nothing relies on this file.
 
 ghost use Rattle.std.specs.Prelude.{◌≡◌, ◌≤◌, ◌<◌, ◌+◌, length, IfErr, OnErr};
 

@@ -5,9 +5,10 @@ use std::alloc::Global;
 
 /// A language for descriptions.
 ///
-/// Each function returns the text that [`meaning`](Self) has for that function and its arguments. A function that builds a
-/// text takes the allocator as its first argument, and its only error is `OutOfMemory`; the others take no memory. A
-/// language that keeps an English form calls that of [`english_form`](crate::english_form).
+/// Each function returns a text, or a piece of one. An implementation states once, as its `meaning`, the text of each
+/// function for its arguments, and each function has to return that text. A function that builds a text takes the
+/// allocator as its first argument, and its only error is `OutOfMemory`; the others take no memory. A language that has
+/// some of its texts in the English form can call the functions of [`english_form`](crate::english_form) for these.
 ///
 /// ```
 /// // In the `impl` of a language that writes hours as English does:

@@ -1,4 +1,4 @@
-//! The languages in which patterns are described. Of each function of each language the exact text is stated.
+//! The languages in which patterns are described. The exact text of each function of each language is stated.
 #![tactic(auto)]
 
 pub mod english;

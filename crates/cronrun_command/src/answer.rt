@@ -31,7 +31,7 @@ const CIVIL_CLOCK: DateTime = DateTime::MIN;
 pub struct Answer {
     /// The text for standard output: the whole answer, or the lines found before a refusal.
     pub text: String,
-    /// Why the answer isn't complete.
+    /// Why the answer isn't complete; `None` if it is.
     pub refusal: Option<CronError>,
 }
 

@@ -41,24 +41,24 @@ const USAGE: &str =
 /// returns the status of the process.
 ///
 /// The words are those after the program's own name. `match PATTERN DATETIME` writes `true` or
-/// `false`. `next PATTERN DATETIME COUNT` writes the runs after the start, one a line, the nearest
-/// first; with `prev` instead, those before it. A word RULE after the count names the zone of the
-/// start. Without it a line is what the clock shows; with it a space and the second since
-/// 1970-01-01T00:00:00 UTC follow. `describe PATTERN` writes the pattern's description in English
-/// as a line.
+/// `false`. `next PATTERN DATETIME COUNT` writes the first COUNT runs after DATETIME, the start,
+/// one a line; with `prev` instead, the last COUNT runs before it, the latest first. A word RULE
+/// after COUNT names the zone of the start. Without it a line is what the clock shows; with it a
+/// space and the second since 1970-01-01T00:00:00 UTC follow. `describe PATTERN` writes the
+/// pattern's description in English as a line.
 ///
 /// The default parser reads PATTERN. DATETIME is `YYYY-MM-DDTHH:MM:SS`, COUNT is a number from 1 to
 /// 1000 in decimal digits, and RULE is a POSIX rule. A DATETIME that the zone's clock shows twice
 /// names the earlier instant.
 ///
 /// The status is [`MISUSED`], with the usage line on standard error, if the words aren't a call. It
-/// is [`REFUSED`], with the error's text as a line there, if the pattern is refused, or the zone's
-/// clock never shows DATETIME or doesn't reach it. So it is if fewer than COUNT runs are found,
-/// memory is lacking, or standard output doesn't take the answer. Otherwise it is [`ANSWERED`]. The
-/// words are checked first, then the pattern, then the start. Runs found before a refusal are on
-/// standard output. The refusal is then the fault of the iterator over them, the limit of a search
-/// if there is none, or lack of memory for another line. A failed write to standard error doesn't
-/// change the status.
+/// is [`REFUSED`], with the error's text as a line there, if the pattern is refused, if the zone's
+/// clock never shows DATETIME or doesn't reach it, if fewer than COUNT runs are found, if memory
+/// runs out, or if the answer can't be written to standard output. Otherwise it is [`ANSWERED`].
+/// The words are checked first, then the pattern, then the start. Runs found before a refusal are
+/// on standard output. The refusal is then the fault of the iterator over them,
+/// `TimeSearchLimitExceeded` if there is none, or lack of memory for another line. A failed write
+/// to standard error doesn't change the status.
 pub fn run<O: Output, E: Output>(alloc: Global, words: &[String], out: &mut O, err: &mut E) -> u8
     ensures known { result ≤ 2 }
     ensures call { IsCall (map string_bytes words.now) → result ≤ 1 }

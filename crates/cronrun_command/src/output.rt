@@ -1,4 +1,4 @@
-//! What takes the text of an answer.
+//! The writers to which an answer is written.
 ghost use Rattle.std.specs.Prelude.{◌≡◌};
 ghost use Rattle.cronrun_command.specs.Output.{Delivers};
 
@@ -6,10 +6,10 @@ use std::fmt::Display;
 use std::io;
 use std::io::Write;
 
-/// What takes the text of an answer: every [`Write`].
+/// A writer to which an answer is written: every [`Write`].
 ///
-/// Its calls have relations of their own. So for a type parameter only a call of `write_text` or `flush_text` can show that a writer
-/// took a text, passed it on, or failed.
+/// The contracts of its calls are stated by relations of this trait. So nothing but a call of `write_text` or `flush_text` can show
+/// that a writer whose type is a parameter took a text, passed it on, or failed.
 pub trait Output {
     ghost use Rattle.std.specs.Prelude.{ℕ, List, Option, Result, IfSome};
     ghost use Rattle.std.specs.Fmt.{with_newline};
@@ -34,7 +34,7 @@ pub trait Output {
         ensures { IfSome (with_newline (D.output line))
             (λ text. Takes contents writes self.old text result self.new) };
 
-    /// Passes on what was written.
+    /// Flushes the writer: it passes on what was written.
     fn flush_text(&mut self) -> io::Result<()>
         ensures { PassesOn contents flushes self.old result self.new };
 }
@@ -61,7 +61,7 @@ impl<W: Write> Output for W {
     }
 }
 
-/// Writes a text and passes it on. The error is the writer's own, unchanged.
+/// Writes a text, and flushes the writer. The error is the writer's own, unchanged.
 pub fn deliver<O: Output>(text: &str, out: &mut O) -> io::Result<()>
     ensures { Delivers O.contents O.writes O.flushes out.old text.now result out.new }
 {

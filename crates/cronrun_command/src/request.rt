@@ -10,7 +10,7 @@ use croner::Direction;
 use croner::time::CivilDateTime;
 use jiff::tz::TimeZone;
 
-/// A call of the program, its words read.
+/// A call of the program, read from its words.
 #[derive(Drop)]
 pub enum Request<'w> {
     /// The description of the pattern.

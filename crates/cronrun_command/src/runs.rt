@@ -1,4 +1,4 @@
-//! Listing the runs of a pattern.
+//! Lists the runs of a pattern, one a line.
 ghost use Rattle.std.specs.Prelude.{◌≡◌, ◌++◌, ◌∷◌, [], Some, is_some, option_map, IsTrue, IfOk, IfErr, OnOk, OnErr, string_bytes};
 ghost use Rattle.croner.specs.iterator.Faults.{is_kept};
 ghost use Rattle.croner.specs.parser.Grammar.{outcome};

@@ -1,4 +1,4 @@
-//! Why a call stops: its answer isn't complete, or wasn't taken.
+//! Why a call stops: its answer isn't complete, or couldn't be written.
 ghost use Rattle.std.specs.Prelude.{◌≡◌};
 ghost use Rattle.cronrun_command.specs.Stop.{stop_of};
 
@@ -10,7 +10,7 @@ use std::{fmt, io};
 pub enum Stop {
     /// The pattern, the start or the search is refused.
     Refused(CronError),
-    /// Standard output does not take the answer.
+    /// The answer couldn't be written to standard output.
     Unwritten(io::Error),
 }
 
@@ -27,7 +27,7 @@ impl fmt::Display for Stop {
     }
 }
 
-/// Why a call stops, if it does: the refusal that ended its answer, or else the error of the writer that didn't take it.
+/// Why a call stops, if it does: the refusal that ended its answer, or else the error of the writer in writing it.
 pub fn stop_of(refusal: Option<CronError>, delivered: io::Result<()>) -> Option<Stop>
     ensures { result ≡ stop_of refusal delivered }
 {

@@ -41,14 +41,15 @@ pub struct FieldBounds {
     pub names: Names,
 }
 
-/// A part of a field: the values from the first to the last, step by step. One whose range runs down names nothing.
+/// A part of a field: the values from the first to the last, step by step. A part whose first is above its last
+/// names nothing.
 #[derive(Clone, Copy)]
 pub struct Part {
-    /// It was written as a star.
+    /// Whether it was written as a star.
     pub is_star: bool,
-    /// The first value, within its field's.
+    /// The first value, within the bounds of its field.
     pub first: u64,
-    /// The greatest value that it may have, within its field's.
+    /// The greatest value that it may have, within the bounds of its field.
     pub last: u64,
     /// How far apart its values are: 1 to 2^31 - 1.
     pub step: u64,
@@ -268,7 +269,8 @@ fn part_from_value(bounds: FieldBounds, first: u64, rest: &[u8]) -> Option<(Part
     )
 }
 
-/// The part that a text begins with, and what follows it; `None` unless the part's bounds lie within the field's.
+/// The part that a text begins with, and what follows it. `None` where it begins with no part, where the part's
+/// first or last value isn't within the bounds of the field, and where its step is 0 or too large for cron.
 pub fn part_of(bounds: FieldBounds, text: &[u8]) -> Option<(Part, &[u8])>
     ensures { option_map (λ p. (p.0, p.1.now)) result ≡ part_of bounds text.now }
 {

@@ -41,7 +41,8 @@ pub enum Note {
     StarDay,
     /// A `*` is one of several parts.
     StarAmongParts,
-    /// A step of days, months or weekdays that is shorter from the last value to the first of the next round.
+    /// A step of days, months or weekdays that is shorter from the last value to the first of the next month, year or
+    /// week.
     UnevenStep,
     /// A part between commas is empty.
     EmptyPart,
@@ -203,15 +204,15 @@ fn any_run(sign: Sign, bounds: FieldBounds, kind: Kind, text: &[u8]) -> bool
 
 // ---- what cron takes of a field, and leaves out of it
 
-/// Whether cron passes over bytes of a field after a part, which are no comma.
+/// Whether a part of a field is followed by bytes other than a comma, which cron passes over.
 pub fn has_passed_over(bounds: FieldBounds, field: &[u8]) -> bool
     ensures { result ≡ has_passed_over bounds field.now }
 {
     any_run(Sign::Followed, bounds, Kind::But(b','), field)
 }
 
-/// Whether a word of a field is a number of 2^32 or more, which cron reduces modulo 2^32, and no bytes of the field are
-/// passed over.
+/// Whether a word of a field is a number of 2^32 or more, which cron reduces modulo 2^32. `false` where cron passes over
+/// bytes of the field.
 pub fn has_large_number(bounds: FieldBounds, field: &[u8]) -> bool
     ensures { result ≡ has_large_number bounds field.now }
 {
@@ -239,8 +240,8 @@ fn all_weekday_bytes(word: &[u8]) -> bool
     word.iter().all(|byte| is_weekday_byte(*byte))
 }
 
-/// Whether a word may be a field of weekdays. It has only letters, digits and the signs of such a field, and its runs of
-/// letters and digits are numbers, names of weekdays or modifiers.
+/// Whether a word may be a field of weekdays. It then has only letters, digits and the signs of such a field, and what
+/// stands between the signs is a number, the name of a weekday or a modifier.
 pub fn looks_like_weekdays(word: &[u8]) -> bool
     ensures { result ≡ looks_like_weekdays word.now }
 {

@@ -10,7 +10,7 @@ use crate::field::FieldBounds;
 use crate::line::{DAYS, Fault, HOURS, MINUTES, MONTHS, WEEKDAYS, word};
 use crate::list::refused_in;
 
-/// Some bytes of a line, from 0.
+/// Some bytes of a line, counted from 0.
 pub struct Span {
     /// The first one.
     pub start: usize,

@@ -11,7 +11,8 @@ use crontab::star::has_clock_star;
 use std::alloc::Global;
 
 impl CrontabJob {
-    /// The job of a line of a crontab, with its pattern and its star. `None` if it runs when the machine starts, or never.
+    /// The job of a line of a crontab: its pattern, and whether it is starred. `None` if it runs when the machine starts,
+    /// or never.
     ///
     /// The errors are those of `job_of` of the crate `crontab`, for the text of its times.
     pub fn of_line(alloc: Global, line: &Job<'_>) -> Result<Option<CrontabJob>, CronError>

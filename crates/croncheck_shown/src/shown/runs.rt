@@ -1,4 +1,4 @@
-//! What a job's times are told.
+//! The lines that tell when a job runs.
 
 use super::often::push_often;
 use super::previous::push_previous;
@@ -13,7 +13,7 @@ use cronplan_forms::Ahead;
 use jiff::Timestamp;
 use std::alloc::{AllocError, Global};
 
-// What a job's times are told. That it never runs is said by its warning.
+// Puts after a text the lines that tell when a job runs. That it never runs is said by its warning.
 pub(crate) fn push_told(
     alloc: Global,
     text: &mut String,

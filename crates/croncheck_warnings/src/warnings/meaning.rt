@@ -1,4 +1,4 @@
-//! What the meaning of a job shows.
+//! The warnings that follow from which days, months, hours and minutes a job names, however they are written.
 ghost use Rattle.std.specs.Prelude.{◌≡◌, ◌||◌, nat_lt, IfOk, IfErr, pos};
 ghost use Rattle.std.specs.List.{list_any, list_all};
 ghost use Rattle.jiff_core.specs.Calendar.{days_in_month};
@@ -15,7 +15,7 @@ use croner::{Cron, CronPattern};
 /// How many days the longest month has.
 const MOST_DAYS: usize = 31;
 
-/// How many days each month has.
+/// How many days each month has at least.
 const LEAST_DAYS: u16 = 28;
 
 const MINUTES: usize = 60;
@@ -64,7 +64,7 @@ fn is_one_day_side(pattern: &CronPattern) -> bool
     pattern.is_dom_wildcard() || pattern.is_dow_wildcard() || pattern.matches_dom_and_dow()
 }
 
-/// Whether a day has to match one of two day fields, of which one names not each day.
+/// Whether neither day field is a star, a day needs to match only one, and at least one doesn't name each day.
 pub fn is_either_day(job: &Cron) -> bool
     ensures { result ≡ is_either_day (meaning_of_job job.now) }
 {

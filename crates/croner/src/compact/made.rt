@@ -1,4 +1,4 @@
-//! A job in few words of a pattern.
+//! The compact job of a pattern.
 
 ghost use Rattle.std.specs.Prelude.{◌≡◌, ℕ};
 ghost use Rattle.croner_pattern.specs.Schedule.{is_plain};
@@ -14,7 +14,7 @@ use crate::compact::years::Years;
 use croner_pattern::pattern::{PatternWords, Unit};
 use std::alloc::Global;
 
-// The job in few words, whose years are found.
+// The compact job, given its years.
 pub(super) fn compact_cron(alloc: Global, cron: &Cron, years: Years) -> CompactCron
     requires { (year : ℕ) → is_plain (years_field years) year ≡ is_plain (job_of cron.now).years year }
     ensures { IsAlike (timetable_of (job_of cron.now)) (timetable_of (compact_meaning result)) }

@@ -1,4 +1,4 @@
-//! What a job in few words keeps of a pattern.
+//! What a compact job keeps of a pattern.
 
 ghost use Rattle.std.specs.Prelude.{◌≡◌, ℕ, ◌<◌, ◌^◌, true, slice_index};
 ghost use Rattle.croner_base.specs.Field.{has_all, is_marked};

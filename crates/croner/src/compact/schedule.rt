@@ -1,4 +1,4 @@
-//! A job in few words as a schedule, and its searches.
+//! A compact job as a schedule, and its searches.
 ghost use Rattle.std.specs.Prelude.{◌≡◌, true, IfOk, IfErr};
 ghost use Rattle.croner_pattern.specs.Shapes.{has_field_shapes};
 ghost use Rattle.croner.specs.compact.Compact.{compact_meaning};

@@ -1,4 +1,4 @@
-//! A job in few words as the words that a search reads.
+//! A compact job as the machine words that a search reads.
 
 ghost use Rattle.std.specs.Prelude.{◌≡◌, ◌&&◌, false, pos, int_le, MatchOption};
 ghost use Rattle.std.specs.Int.{IsInRange};

@@ -1,4 +1,4 @@
-//! The years of a job in few words.
+//! The years of a compact job.
 
 ghost use Rattle.std.specs.Prelude.{◌≡◌, ◌≤◌, ℕ, true, false, IfOk, IfErr, OnErr, MatchOption};
 ghost use Rattle.std.specs.Int.{IsInRange};
@@ -26,7 +26,7 @@ pub(crate) struct YearRun {
     ghost to: { last ≤ last_year },
 }
 
-/// Years that are no one run.
+/// Years that aren't one range of consecutive years.
 #[derive(Debug, Drop, PartialEq, Eq, Hash)]
 pub(crate) struct ListedYears {
     pub(crate) field: CronComponent,
@@ -64,7 +64,7 @@ fn years_between(field: &CronComponent) -> YearRun
     }
 }
 
-// The run of years that a field names, if they are one.
+// The years that a field names as one range of consecutive years, if they are one.
 fn run_of(field: &CronComponent) -> Option<YearRun>
     requires { is_like field.now.shape year_shape ≡ true }
     ensures { MatchOption result (IsOneRun field.now → ⊥) (λ run. IsRun field.now run.first run.last) }

@@ -22,7 +22,7 @@ use std::alloc::AllocError;
 /// leaves the iterator where it is, so a later call can go on; `fault` then says why, unless the searched years have ended. In a
 /// calm zone ([`CronDateTime`] says when a zone is calm) and from a whole second the items are these instants in order, each
 /// once, with none left out between them, over any backend. No item and no fault then means that no run of any job is left in the
-/// searched years.
+/// searched years ([`CronTable::find_next_occurrence`] says which these are).
 #[derive(Debug, Drop)]
 pub struct CronTableIterator<'t, T: CronDateTime> {
     table: &'t CronTable,
@@ -68,8 +68,8 @@ impl<'t, T: CronDateTime> CronTableIterator<'t, T> {
         }
     }
 
-    /// The error, other than the limit, that ended the last call of `next`. `None` where that call gave an item or reached
-    /// the limit, and before the first call.
+    /// The error, other than `TimeSearchLimitExceeded`, that ended the last call of `next`. `None` where that call gave an item
+    /// or ended in `TimeSearchLimitExceeded`, and before the first call.
     ///
     /// ```
     /// let mut table = CronTable::new(alloc);

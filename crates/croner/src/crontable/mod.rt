@@ -1,4 +1,4 @@
-//! Many patterns at once: the next moment at which any of them runs, and which of them run then.
+//! Many jobs at once: the next instant at which any of them runs, and which of them run then.
 ghost use Rattle.std.specs.Prelude.{◌≡◌, true};
 ghost use Rattle.croner.specs.Views.{job_of};
 
@@ -209,13 +209,14 @@ impl CronTable {
     ///
     /// Errors:
     /// - `TimeSearchLimitExceeded`: in a calm zone and from a whole second no run of any job is left in the searched years, which
-    ///   end when the zone's clock first shows year 5000. If one job's search reaches that limit, a run of another job after it
-    ///   isn't given, since an unseen run might be nearer. A table without jobs always gives this error.
+    ///   end when the zone's clock first shows year 5000. If one job's search gives this error, a run of another job past the
+    ///   searched years isn't given, since an unseen run might be nearer. A table without jobs always gives this error.
     /// - `OutOfMemory`: there is no memory for the places, which is taken first, or the backend lacks memory.
     /// - `InvalidDate` or `InvalidTime`, by the backend: it doesn't hold a moment that the search needs. Neither occurs in a calm
     ///   zone from a whole second if the years 0 to 5001 and two days around the start are held.
     ///
-    /// Of several errors other than the limit, that of the first job is returned. A search changes nothing.
+    /// Of several errors other than `TimeSearchLimitExceeded`, that of the job with the lowest place is returned. A search
+    /// changes nothing.
     ///
     /// ```
     /// let mut table = CronTable::new(alloc);

@@ -1,5 +1,5 @@
-//! Equality, order and hash of iterators, if the type of their times has them: by the pattern, the position, the two
-//! marks (first, inclusive) and the direction. The kept fault has no part in them.
+//! Equality, order and hash of iterators, if the type of their times has them: by the pattern, the position, whether
+//! that is still the start, whether the start counts, and the direction. The kept fault has no part in them.
 
 use super::CronIterator;
 use std::cmp::Ordering;
@@ -9,7 +9,7 @@ impl<T> CronIterator<T> {
     ghost use Rattle.std.specs.Prelude.{◌≡◌};
     ghost use Rattle.croner.specs.iterator.IteratorOrder.{marks_cmp};
 
-    // By the two marks and the direction.
+    // By whether the position is still the start, whether the start counts, and the direction.
     fn cmp_marks(&self, other: &CronIterator<T>) -> Ordering
         ensures { result ≡ marks_cmp self.now other.now }
     {

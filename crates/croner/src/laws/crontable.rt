@@ -18,16 +18,16 @@ use croner_base::time::table::TableTime;
 use croner_base::time::{CronDateTime, Direction};
 use std::alloc::Global;
 
-/// The items of `calls` calls of `next`, with calls without an item among them or not, and a mark that nothing is left: whether
-/// the last call gave no item and kept no fault.
+/// The items of `calls` calls of `next`, of which some may give none; and whether nothing is left, which is so if the last
+/// call gave no item and kept no fault.
 ///
-/// The items and the mark are those of exactly that many calls, one after the other. In a calm zone and from a whole second,
-/// over any backend, the items are the first that the iterator had yet to give, strictly in order in its direction. Each has
-/// exactly the places that count at its instant. The iterator goes on with the rest; if the mark is true, there is no rest in
-/// the searched years. If the backend holds what a search from the iterator's position needs, it also holds what one from its
-/// new position needs. The only fault after any number of calls is then lack of memory; an item's places take memory over any
-/// backend. The only error is `OutOfMemory`, since memory for as many items as there are calls is taken first; the iterator is
-/// then unchanged.
+/// Exactly that many calls are made, one after the other. In a calm zone and from a whole second, over any backend, the items
+/// are the first that the iterator had yet to give, strictly in order in its direction. Each has exactly the places of the jobs
+/// whose runs count at its instant. The iterator goes on with the rest; if nothing is left, there is no rest in the searched
+/// years. If the backend holds what a search from the iterator's position needs, it also holds what one from its new position
+/// needs. The only fault after any number of calls is then lack of memory; an item's places take memory over any backend. The
+/// only error is `OutOfMemory`, since memory for as many items as there are calls is taken first; the iterator is then
+/// unchanged.
 pub fn next_table_runs<T: CronDateTime>(
     alloc: Global,
     iterator: &mut CronTableIterator<'_, T>,

@@ -37,16 +37,16 @@ pub enum ListingEnd {
     Refused,
 }
 
-/// The items of `calls` calls of `next`, with calls without an item among them or not, and a mark that nothing is left: whether
-/// the last call gave no item and kept no fault.
+/// The items of `calls` calls of `next`, of which some may give none; and whether nothing is left, which is so if the last call
+/// gave no item and kept no fault.
 ///
-/// The items and the mark are those of exactly that many calls, one after the other. In a calm zone and from a whole second, over
-/// any backend, the items are the first that the iterator had yet to give, strictly in order in its direction. The iterator goes
-/// on with the rest; if the mark is true, there is no rest in the searched years. If the backend also holds what the search from
-/// the start needs, it holds what each later search needs. The only fault after any number of calls is then lack of memory; if
-/// the backend can't lack memory either, there is an item for each call, or they are all that is left. In every zone an item is a
-/// whole second in the start's zone. The only error is `OutOfMemory`, since memory for as many items as there are calls is taken
-/// first; the iterator is then unchanged.
+/// Exactly that many calls are made, one after the other. In a calm zone and from a whole second, over any backend, the items are
+/// the first that the iterator had yet to give, strictly in order in its direction. The iterator goes on with the rest; if nothing
+/// is left, there is no rest in the searched years. If the backend also holds what the search from the start needs, it holds what
+/// each later search needs. The only fault after any number of calls is then lack of memory; if the backend can't lack memory
+/// either, there is an item for each call, or the items are all that is left. In every zone an item is a whole second in the
+/// start's zone. The only error is `OutOfMemory`, since memory for as many items as there are calls is taken first; the iterator
+/// is then unchanged.
 pub fn next_runs<T: CronDateTime>(
     alloc: Global,
     iterator: &mut CronIterator<T>,
@@ -85,8 +85,8 @@ pub fn next_runs<T: CronDateTime>(
 ///
 /// The items are the first that the iterator had yet to give, and each is a whole second. Calls are made until there are `most`
 /// items, a run lies past the second, or a call gives none. So either none is left out up to the second, or there are `most`, or a
-/// search failed. No search fails from a start around which the table holds enough. A run past the second was taken from the
-/// iterator, which goes on past it; an iterator [`resume_after`] from the last item gives it again.
+/// search failed. No search fails if the table's clock holds what a search from the position needs. A run past the second was
+/// taken from the iterator, which goes on past it; an iterator [`resume_after`] from the last item gives it again.
 ///
 /// The only error is `OutOfMemory`, since memory for `most` items is taken first; the iterator is then unchanged.
 pub fn next_runs_until<'t>(
@@ -173,9 +173,9 @@ fn compare<T: CronDateTime>(items: &[T], orders: &mut Vec<Ordering>)
 /// The next run after a run, and the way back: the previous run before that one.
 ///
 /// In a calm zone, from a run of year 3 or later, over any backend, the way back finds that run: the same instant in the same
-/// zone. It never fails by the limit, even if the next run is in year 5000. If the backend also holds what a search from the
-/// run needs, it fails only by `OutOfMemory`, over a backend that can lack memory. An error instead of the pair is one of the
-/// way there.
+/// zone. The way back never fails by `TimeSearchLimitExceeded`, even if the next run is in year 5000. If the backend also holds
+/// what a search from the run needs, it fails only by `OutOfMemory`, over a backend that can lack memory. An error in place of
+/// the pair is that of the search for the next run.
 pub fn there_and_back<T: CronDateTime>(
     job: &Cron,
     run: &T,

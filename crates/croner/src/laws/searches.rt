@@ -17,9 +17,9 @@ use croner_base::time::{CivilDateTime, CronDateTime, Direction};
 
 /// What a search finds, and what `is_time_matching` says of it.
 ///
-/// The second value is whether what the zone's clock shows at the first is scheduled. It is true for an interval job, and for
-/// every job if the zone resolves each second that it holds to one instant. It is false at a fixed-time job's run that is
-/// carried across a gap, since nothing is scheduled there.
+/// The second value says whether the zone's clock shows a scheduled second at the first. It is true for an interval job, and
+/// for every job if the zone resolves each second that it holds to one instant. It is false at a fixed-time job's run that
+/// is carried across a gap, since nothing is scheduled there.
 pub fn found_and_matching<T: CronDateTime>(
     job: &Cron,
     start: &T,
@@ -63,10 +63,10 @@ pub fn found_and_shown<T: CronDateTime>(
 
 /// A search's answer: the law of its errors.
 ///
-/// Its errors are the limit, `InvalidDate`, `InvalidTime` and, only over a backend that can lack memory, `OutOfMemory`. In a
-/// calm zone from a whole second the limit means that no run is left in the searched years. If the backend also holds what a
-/// search needs, the only errors are the limit and lack of memory. From a start whose clock shows year 5001 or later (forward),
-/// or year 0 or earlier (backward), the answer is the limit, in every zone and over every backend.
+/// Its errors are `TimeSearchLimitExceeded` (the limit), `InvalidDate`, `InvalidTime` and, only over a backend that can lack
+/// memory, `OutOfMemory`. In a calm zone from a whole second the limit means that no run is left in the searched years. If the
+/// backend also holds what a search needs, the only errors are the limit and lack of memory. From a start whose clock shows year
+/// 5001 or later (forward), or year 0 or earlier (backward), the answer is the limit, in every zone and over every backend.
 pub fn found_or_refused<T: CronDateTime>(
     job: &Cron,
     start: &T,

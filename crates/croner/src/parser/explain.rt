@@ -27,9 +27,9 @@ impl CronParser {
     ///
     /// The fault has the kind of `parse`'s refusal and a place in the given text, in bytes from 0, on character boundaries. The
     /// place is the first illegal character of a field, a piece of the first part of a field's list that can't be read, or the
-    /// whole word at which a count is wrong. The fault names the field, except for a wrong count and a text with `@`; the place
-    /// in such a text contains an `@`. The only error is `OutOfMemory`, if memory runs out. It would also be returned if the
-    /// place that was found failed its test; no text is known for which it does.
+    /// whole word at which a count is wrong. It is the whole text if that is only white space, or if the settings accept no
+    /// text. The fault names the field, except for these two, a wrong count and a text with `@`; the place in a text with `@`
+    /// contains an `@`. The only error is `OutOfMemory`, if memory runs out.
     ///
     /// ```
     /// let parser = CronParser::new();

@@ -14,7 +14,7 @@ use croner_base::errors::CronError;
 use croner_base::time::{CivilDateTime, CronDateTime, Direction, Resolution};
 use std::alloc::Global;
 
-/// How many seconds on the edge of the other half is sought.
+/// How far from the start the edge of the other half is looked for, in seconds.
 const HALF_SEARCH_SECONDS: u32 = 86_400;
 
 /// Whether the instant, which reads `shown`, is on the half of a repeated range that a search in the direction meets first.
@@ -45,8 +45,8 @@ pub(crate) fn is_on_first_half<T: CronDateTime>(
     }
 }
 
-/// The nearest instant of the half that the start, on the half that the search meets first, is not on; `None` where a day
-/// on is still on the start's half.
+/// From a start on the half of a repeated range that the search meets first: the nearest instant of the other half. `None`
+/// where a day on is still on the start's half.
 pub(crate) fn other_edge<T: CronDateTime>(
     alloc: Global,
     start: &T,

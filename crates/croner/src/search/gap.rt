@@ -18,14 +18,15 @@ use croner_base::limits::GAP_LIMIT_SECONDS;
 use croner_base::time::{CivilDateTime, CronDateTime, Direction, Resolution};
 use std::alloc::Global;
 
-/// How many seconds on a gap's end is sought, and its front.
+/// How far from a second in a gap the gap's end and its front are looked for, in seconds.
 const GAP_SEARCH_SECONDS: u32 = GAP_LIMIT_SECONDS;
 
 /// What the backend answers for a second outside the gap: the second, with the first instant that shows it, or why it
 /// does not resolve it.
 type Beyond<T> = Result<(CivilDateTime, T), CronError>;
 
-/// A second in the gap and one outside it, by how far they lie from the skipped one, and what is answered for the latter.
+/// A second in the gap and one outside it, given by how far they lie from the skipped second, and the backend's answer for
+/// the one outside.
 #[derive(Drop)]
 struct Around<T> {
     inside: u32,
@@ -45,8 +46,8 @@ struct SideSearch<'s, T> {
 }
 
 impl<'s, T: CronDateTime, S: Schedule> Search<'s, T, S> {
-    /// The first instant after the gap that a second lies in, with what it shows; `None` where the gap reaches further than
-    /// the search.
+    /// The first instant after the gap in which a second lies, with what the clock shows there; `None` where the gap reaches
+    /// further than the search.
     pub(super) fn gap_end(
         &self,
         skipped: CivilDateTime,
@@ -59,7 +60,7 @@ impl<'s, T: CronDateTime, S: Schedule> Search<'s, T, S> {
         self.gap_side(skipped, Direction::Forward)
     }
 
-    /// The last second before the gap that a second lies in; `None` where the gap reaches further than the search.
+    /// The last second before the gap in which a second lies; `None` where the gap reaches further than the search.
     pub(super) fn gap_front(
         &self,
         skipped: CivilDateTime,
@@ -76,9 +77,9 @@ impl<'s, T: CronDateTime, S: Schedule> Search<'s, T, S> {
         Ok(Some(front))
     }
 
-    /// The nearest second outside the gap that a second lies in, where both lie in the years that are searched whole: before year
-    /// 5000 forward, after year 1 backward. `None` where they don't, where the gap reaches further than the search, and where the
-    /// backend refuses what has to be asked: whoever asks then goes on as without it.
+    /// The nearest second outside the gap in which a second lies, if both lie in the years of which no run is left out: before
+    /// year 5000 (forward) or after year 1 (backward). `None` where they don't, where the gap reaches further than the search, and
+    /// where the backend refuses a second that has to be asked for: the caller then goes on second by second.
     pub(super) fn across_gap(&self, skipped: CivilDateTime) -> Option<CivilDateTime>
         requires in_gap { (start_of T.moment self.now).zone.resolves skipped ≡ Some Gap }
         requires searched { IsSearched (wall_second skipped) }

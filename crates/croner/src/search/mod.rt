@@ -36,7 +36,7 @@ pub(crate) struct Search<'s, T, S> {
     start: &'s T,
     /// What the start reads.
     shown: CivilDateTime,
-    /// Whether the start counts itself.
+    /// Whether the start itself counts.
     inclusive: bool,
     direction: Direction,
 }
@@ -54,7 +54,7 @@ impl<'s, T: CronDateTime, S: Schedule> Search<'s, T, S> {
     }
 
     // The nearest instant of the other half, where the start is on the half that comes first; `None` where it is on no such half.
-    // The limit where a day on is still on the start's half: no calm zone has that.
+    // `TimeSearchLimitExceeded` where a day on is still on the start's half, which no calm zone has.
     fn other_half(&self) -> Result<Option<T>, CronError>
         requires { wall_second self.now.shown ≡ reading (start_of T.moment self.now) }
         ensures value { IfOk result (HasOtherHalf T.moment self.now.direction (start_of T.moment self.now)) }
@@ -144,9 +144,9 @@ impl<'s, T: CronDateTime, S: Schedule> Search<'s, T, S> {
     }
 }
 
-/// The nearest run from the start in the direction, itself included where the search is inclusive. The limit where no run
-/// is found in the years that are searched; the backend's own error, as it is, where it does not hold a moment that is asked
-/// for, or lacks memory.
+/// The nearest run from the start in the direction, the start included where the search is inclusive. The error is
+/// `TimeSearchLimitExceeded` where no run is found in the searched years; or the backend's own, unchanged, where it doesn't
+/// hold a moment that is asked for, or lacks memory.
 pub(crate) fn find<T: CronDateTime, S: Schedule>(
     alloc: Global,
     schedule: &S,

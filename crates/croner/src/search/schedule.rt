@@ -16,8 +16,8 @@ pub(crate) trait Schedule {
     /// When it asks for runs, in whatever zone.
     ghost timetable: { Self → Timetable };
 
-    /// The nearest scheduled second from `from` on, itself included. `None` where the search would have to step over a
-    /// boundary from year 5000 or later forward, from year 1 or earlier backward.
+    /// The nearest scheduled second from `from` on, itself included. `None` means that none is left before year 5000
+    /// (forward) or after year 1 (backward; for a fixed-time job also on the last day of year 1).
     fn next_scheduled(&self, from: CivilDateTime, direction: Direction) -> Option<CivilDateTime>
         requires { shaped self.now }
         ensures { MatchOption result

@@ -1,4 +1,4 @@
-//! One walk along the wall clock.
+//! One walk along the wall clock: from scheduled second to scheduled second, up to the first at which the job runs.
 ghost use Rattle.std.specs.Prelude.{◌≡◌, ◌⊎◌, ◌↔◌, IsTrue, IfOk, IfErr, MatchOption, Some};
 ghost use Rattle.croner_base.specs.declared.time.value.Resolution.TheVariants.{Ambiguous, Gap};
 ghost use Rattle.croner_base.specs.Zone.{IsResolved, reading};
@@ -193,7 +193,7 @@ impl<'s, T: CronDateTime, S: Schedule> Search<'s, T, S> {
     }
 
     /// The nearest run that a walk along the wall clock from the start meets, over one half of each repeated range; `None` where it
-    /// meets none in the years that are searched, and without a question where nothing is scheduled ahead.
+    /// meets none in the years that are searched. Where nothing is scheduled ahead, the backend isn't asked.
     pub(super) fn walk(&self) -> Result<Option<T>, CronError>
         requires shaped { S.shaped self.now.schedule.now }
         requires shown { wall_second self.now.shown ≡ reading (start_of T.moment self.now) }

@@ -28,9 +28,10 @@ impl CronComponent {
     ///
     /// A lone `*` marks every value plain and sets the wildcard mark. Any other text is a list, split at commas; each
     /// part is trimmed, and empty parts are skipped. A part is a number, a range `a-b`, or a step `*/n` or `a-b/n`.
-    /// Each of these may end with `#1` to `#5` or `#L`, for the nth or the last such weekday. A part can also be a
-    /// number with `L` for the last one, a nearest weekday `nW`, `L` or `LW`. With sloppy ranges `a/n` and `/n` are
-    /// steps too.
+    /// Each of these may end with `#1` to `#5` or `#L`: of each weekday that it names, the first to the fifth in a month,
+    /// or the last. A part can also be `aL`, which means `a#L`; `aW`, for the Monday-to-Friday day nearest to day `a`; `L`,
+    /// for the month's last day; or `LW`, for its last Monday-to-Friday day. With sloppy ranges `a/n` and `/n` are steps
+    /// too.
     ///
     /// `ComponentError` at the first part that has none of these forms, is out of bounds or asks for a modifier that
     /// isn't supported; `OutOfMemory` where there is no memory for its message. After either error the marks,

@@ -78,8 +78,9 @@ pub fn year_begins_on_its_first_day(civil: CivilDateTime)
         → (year ≤ℤ civil.date.year) ↔ ((day_number year 1 1 *ℤ pos day_seconds) ≤ℤ wall_second civil) }
 {}
 
-/// A pattern can name the wall seconds of the years 1 to 5000. A search, wherever it starts, needs those of the years 0
-/// to 5001 to be held. The laws promise that all a search needs is held around each start in the years -9997 to 9997.
+/// A pattern can name the wall seconds of the years 1 to 5000. A search, wherever it starts, needs a clock that holds
+/// the years 0 to 5001. The laws of [`clocks`](crate::laws::clocks) and [`tables`](crate::laws::tables) promise that a
+/// clock holds all that a search needs from a start in the years -9997 to 9997.
 pub fn years_of_the_limits(civil: CivilDateTime)
     ensures searched { IsSearched (wall_second civil) ↔ IsBetween (pos first_year) (pos last_year) civil.date.year }
     ensures needed { IsInReach (wall_second civil) ↔ IsBetween (pos (first_year - 1)) (pos (last_year + 1)) civil.date.year }

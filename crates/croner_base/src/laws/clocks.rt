@@ -13,8 +13,8 @@ ghost use Rattle.croner_base.specs.ZonedValue.{value_moment};
 use jiff::Zoned;
 use jiff::civil::DateTime;
 
-/// The clock of civil date-times is calm: each second that is held is resolved to exactly the instants that show it,
-/// and the clock never changes. Each is resolved to one instant.
+/// The clock of civil date-times is calm: it never changes, and each second that `jiff` holds is resolved to exactly
+/// the one instant that shows it.
 pub fn civil_time_is_calm(start: DateTime)
     ensures calm { IsCalm (civil_moment start).zone }
     ensures single { (civil : CivilDateTime) (instants : Resolution ℤ)
@@ -22,13 +22,13 @@ pub fn civil_time_is_calm(start: DateTime)
         → instants ≡ Resolution.Single (wall_second civil) }
 {}
 
-/// Around a civil date-time of the years -9997 to 9997 all that a search needs is held.
+/// `jiff` holds all that a search needs from a civil date-time of the years -9997 to 9997.
 pub fn civil_time_holds_around(start: DateTime)
     ensures { IsStart (reading (civil_moment start)) → HoldsAround (civil_moment start) }
 {}
 
-/// Around a zoned date-time that reads a year from -9997 to 9997 all that a search needs is held, in every time zone,
-/// calm or not.
+/// `jiff` holds all that a search needs from a zoned date-time whose clock shows a year from -9997 to 9997, in every
+/// time zone, calm or not.
 pub fn zoned_holds_around(start: &Zoned<'_>)
     ensures { IsStart (reading (value_moment start.now)) → HoldsAround (value_moment start.now) }
 {}

@@ -8,13 +8,13 @@ ghost use Rattle.croner_base.specs.Marks.{IsWellFormed, AddsOne, TakesOne, AddsN
 ghost use Rattle.croner_base.specs.Part.{field_of, pieces_at};
 ghost use Rattle.croner_base.specs.Reading.{Reading};
 
-/// A mark adds its value to the sets of its modifiers, and changes nothing else: no other value or modifier, not the
+/// `set_bit` adds its value to the sets of its modifiers, and changes nothing else: no other value or modifier, not the
 /// step, the enabled features or the wildcard mark.
 pub fn a_mark_adds_one_value()
     ensures { (f : Field) (value bits : ℕ) → IsWellFormed f → can_ask f.shape value bits ≡ true → AddsOne f value bits }
 {}
 
-/// An unset removes its value from the sets of its modifiers, and changes nothing else.
+/// `unset_bit` removes its value from the sets of its modifiers, and changes nothing else.
 pub fn an_unset_takes_one_value()
     ensures { (f : Field) (value bits : ℕ) → IsWellFormed f → can_ask f.shape value bits ≡ true → bits < 256 → TakesOne f value bits }
 {}
@@ -45,19 +45,20 @@ pub fn values_list_the_set()
     ensures { (f : Field) (bits : ℕ) → ListsSet bits f }
 {}
 
-/// A value has one of two groups of modifiers exactly if it has one of the first group or one of the second.
+/// A value has a modifier from two groups together exactly if it has one from the first group or one from the second.
 pub fn several_modifiers_ask_for_any()
     ensures { (f : Field) (a b value : ℕ) → is_marked (bit_or a b) f value ≡ (is_marked a f value || is_marked b f value) }
 {}
 
-/// A component whose maximum is 0 holds no value: each set, unset and question is refused.
+/// A component whose maximum is 0 holds no value: `set_bit`, `unset_bit` and `is_bit_set` refuse each call.
 pub fn a_maximum_of_zero_holds_nothing()
     ensures asks { (shape : Shape) (value bits : ℕ) → shape.max ≡ 0 → can_ask shape value bits ≡ false }
     ensures marks { (shape : Shape) (value bits : ℕ) → shape.max ≡ 0 → can_mark shape value bits ≡ false }
 {}
 
-/// A default component holds nothing and accepts nothing: it lists no value, whatever the modifiers. It refuses
-/// each set, unset and question, each feature but `NONE_BIT`, and each text but a list of empty parts.
+/// A default component holds nothing and accepts nothing: it lists no value, whatever the modifiers. Each call of
+/// `set_bit`, `unset_bit` and `is_bit_set` is refused, and so is each feature but `NONE_BIT`, and each text but a list of
+/// empty parts.
 pub fn a_default_component_holds_nothing()
     ensures lists { (bits : ℕ) → marked_values bits default_field ≡ [] }
     ensures modifiers { has_modifiers default_field ≡ false }

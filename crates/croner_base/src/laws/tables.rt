@@ -18,7 +18,7 @@ pub fn clock_changes_where_the_table_does(table: &ClockTable)
     ensures { (instant : ℤ) → IsChange (table_zone table.now) instant ↔ ¬ (All (λ c. ¬ (c.0 ≡ instant)) table.now.changes.items) }
 {}
 
-/// Around a second at which a table's clock reads a year from -9997 to 9997 all that a search needs is held.
+/// A table's clock holds all that a search needs from a second at which it shows a year from -9997 to 9997.
 pub fn table_time_holds_around(start: &TableTime<'_>)
     ensures { IsStart (reading (table_moment start.now)) → HoldsAround (table_moment start.now) }
 {}

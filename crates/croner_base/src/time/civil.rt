@@ -140,7 +140,7 @@ impl CivilDate {
         CivilDate::from_ymd_opt(year, month, day).ok_or(CronError::InvalidDate)
     }
 
-    /// The date of parts that the caller knows to be one: nothing is checked at run time.
+    /// The date of these parts. The caller makes sure that it exists: nothing is checked at run time.
     pub fn from_parts_unchecked(year: i32, month: u32, day: u32) -> CivilDate
         requires { IsRealDate year month day }
         ensures { HasYmd year month day result }
@@ -289,7 +289,7 @@ impl CivilTime {
         Some(CivilTime::from_parts_unchecked(hour, minute, second))
     }
 
-    /// The time of parts that the caller knows to be in range: nothing is checked at run time.
+    /// The time of these parts. The caller makes sure that they are in range: nothing is checked at run time.
     pub fn from_parts_unchecked(hour: u32, minute: u32, second: u32) -> CivilTime
         requires hour { hour < 24 }
         requires minute { minute < 60 }

@@ -15,8 +15,8 @@ pub trait Clocked: CronDateTime {
     ghost use Rattle.std.specs.Prelude.{true};
     ghost use Rattle.croner_base.specs.Clocked.{IsAtSecond};
 
-    /// The whole second it lies in, counted from 1970-01-01T00:00:00 UTC; in civil time, from that date and time. Half
-    /// a second before 1970 lies in the second -1.
+    /// The whole second in which the time lies, counted from 1970-01-01T00:00:00 UTC; in civil time, from that date and
+    /// time. Half a second before 1970 lies in the second -1.
     ///
     /// ```
     /// let noon = DateTime::new(2024, 7, 1, 12, 0, 0, 0)?;

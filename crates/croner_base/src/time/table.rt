@@ -18,7 +18,7 @@ use std::cmp::Ordering;
 
 /// A clock given by its offset from UTC, in seconds: before its first change, and from each change on.
 ///
-/// Every `ClockTable` is calm, as the promises of a search ask ([`CronDateTime`] says when a zone is calm).
+/// The clock of every `ClockTable` is calm ([`CronDateTime`] says what that means), as most promises about searches ask.
 ///
 /// Paris in 2024 is one hour ahead of UTC, and two from 2024-03-31T01:00:00 UTC to 2024-10-27T01:00:00 UTC:
 ///
@@ -180,7 +180,7 @@ impl<'t> TableTime<'t> {
         }
     }
 
-    /// The second, on the table's clock, that contains an instant of `jiff`. Its fraction is dropped: so a search
+    /// The second, on the table's clock, in which an instant of `jiff` lies. The instant's fraction is dropped, so a search
     /// backward finds a run at the beginning of that second only if the search is inclusive.
     ///
     /// ```
@@ -197,8 +197,8 @@ impl<'t> TableTime<'t> {
         }
     }
 
-    /// The instant of `jiff`. `InvalidTime` outside -377,705,023,201 to 253,402,207,200, the seconds of `jiff`'s
-    /// instants.
+    /// This second as an instant of `jiff`. `InvalidTime` outside -377,705,023,201 to 253,402,207,200, the seconds of
+    /// `jiff`'s instants.
     ///
     /// ```
     /// let noon = TableTime::new(&paris, 1_719_828_000)?;

@@ -27,9 +27,12 @@ pub enum Resolution<T> {
 
 /// A value that names an instant in a time zone: what a search needs of a date and time library.
 ///
+/// The docs call a type with this trait a backend. A backend holds a moment if it has a value for it.
+///
 /// A value has a zone, a whole second and a fraction of a second. The zone's clock shows one wall second at each whole
-/// second. An implementation states once which zone, second and fraction its values name. The five functions and
-/// `Clone` have to agree with that, whatever the zone does.
+/// second: a date and time, counted in seconds since 1970-01-01T00:00:00 on a clock whose days have 86,400 seconds. An
+/// implementation states once which zone, second and fraction its values name. The five functions and `Clone` have to
+/// agree with that, whatever the zone does.
 ///
 /// # Calm zones
 ///

@@ -1,5 +1,5 @@
-//! The 28 kinds of month, by length and weekday of the first day, and the 14 kinds of year, by being a leap year or not and
-//! weekday of the first day.
+//! Months and years by their kind. A month has one of 28 kinds, by its length and the weekday of its first day. A year has
+//! one of 14, by whether it is a leap year and by the weekday of its first day.
 ghost use Rattle.std.specs.Prelude.{◌≡◌, ◌<◌, ◌↔◌, ℕ, ◌+◌, ◌%◌, ℤ, true, pos, IsTrue};
 ghost use Rattle.std.specs.Int.{IsInRange, bit_at};
 ghost use Rattle.jiff_core.specs.Calendar.{is_leap_year, days_in_month};

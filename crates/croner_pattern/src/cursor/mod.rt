@@ -22,9 +22,9 @@ use croner_base::time::{CivilDate, CivilDateTime, CivilTime, Direction};
 
 /// The nearest scheduled date and time from a date and time on, itself included.
 ///
-/// A search steps over a year, a month, a day, an hour or a minute forward only from a year before 5000, and backward
-/// only from a year after 1. A match in the day, the hour and the minute where it stands needs no step. It answers `None`
-/// where it would have to step and does not, or where nothing is left.
+/// From a year before 5000 (forward) or after 1 (backward) the search goes no further than the first day of year 5000, or
+/// the last day of year 1. From any other year it stays on the day of `from`: there it doesn't leave an hour that the
+/// pattern names, nor in the hour of `from` a minute that it names. `None` where nothing is scheduled up to there.
 pub fn next_scheduled<P: PatternWords>(
     pattern: &P,
     from: CivilDateTime,
@@ -51,7 +51,7 @@ pub fn next_scheduled<P: PatternWords>(
 }
 
 // The nearest scheduled time on the day of a date and time, from it on, itself included. `days` are those that match in the
-// month. Where there is no room it steps to no other hour or minute.
+// month. Where there is no room it leaves no named hour, and in the hour of `from` no named minute.
 #[inline(always)]
 fn in_own_day<P: PatternWords>(
     pattern: &P,
@@ -80,7 +80,7 @@ fn in_own_day<P: PatternWords>(
     }
 }
 
-/// Whether a date matches.
+/// Whether a date matches: its year and its month are named, and its day fits the two day fields.
 pub fn matches_date<P: PatternWords>(pattern: &P, date: CivilDate) -> bool
     requires { has_field_shapes (P.meaning pattern.now) ≡ true }
     ensures { result ≡ is_date_matching (P.meaning pattern.now) date }

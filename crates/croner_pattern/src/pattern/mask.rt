@@ -56,8 +56,8 @@ impl CronPattern {
     }
 
     /// The days that fit in a month of `length` days whose 1st has the weekday `first`, from 0 for Sunday. Bit `day - 1` is
-    /// set exactly where the day fits; the bits above the last day are 0. With the shapes of a pattern's fields nothing is
-    /// refused.
+    /// set exactly where the day fits; the bits above the last day are 0. The caller makes sure that `length` is from 28 to
+    /// 31, `first` is below 7, and each field has the shape of its place; so nothing is refused here.
     ///
     /// ```
     /// let job = Cron::from_str(alloc, "0 9 * * MON")?;
@@ -73,7 +73,7 @@ impl CronPattern {
     }
 }
 
-/// The same of a pattern in whatever form.
+/// The same for a pattern in any form.
 pub(crate) fn days_of_month<P: PatternWords>(pattern: &P, length: u32, first: u32) -> u32
     requires shapes { has_field_shapes (P.meaning pattern.now) ≡ true }
     requires length { IsInRange 28 31 length }

@@ -10,7 +10,8 @@ use std::marker::Model;
 /// The longest text that is kept in place, in bytes.
 const LONGEST_IN_PLACE: usize = 48;
 
-/// A text. A short one is kept in place and takes no memory; if there is a long one, that is the text.
+/// A text. Up to 48 bytes are kept in place and take no memory. A longer text is in `long`, which is
+/// empty otherwise.
 #[derive(Drop)]
 pub struct Text {
     short: ArrayString<LONGEST_IN_PLACE>,

@@ -1,4 +1,5 @@
-//! What a search on the wall clock reads of a pattern: its marks as words, its years, and how its day fields are joined.
+//! What a search on the wall clock reads of a pattern: its marks as machine words, its years, and how its day fields are
+//! joined.
 
 ghost use Rattle.std.specs.Prelude.{◌≡◌, ℕ, ◌<◌, ◌^◌, true, false};
 ghost use Rattle.croner_base.specs.Field.{has_all, is_marked};
@@ -21,7 +22,7 @@ pub enum Unit {
     Month,
 }
 
-/// A pattern, in whatever form, as the words that a search reads. Nothing here takes memory.
+/// A pattern, in any form, as the machine words that a search reads. Nothing here takes memory.
 pub trait PatternWords {
     ghost use Rattle.croner_pattern.specs.Meaning.{Meaning};
 

@@ -1,4 +1,5 @@
-//! The order of marks by value: the least value at which two differ decides, by the sums there.
+//! The order of marks: the least value whose modifiers differ decides. The lesser is that with the
+//! lesser sum of the bits of this value's modifiers.
 
 ghost use Rattle.std.specs.Prelude.{◌≡◌, ◌<◌, length, slice_index, IsTrue, MatchOption};
 ghost use Rattle.std.specs.Cmp.Lexicographic.{slice_cmp};
@@ -12,7 +13,8 @@ use super::{Marks, rows};
 use std::cmp::Ordering;
 
 impl Marks {
-    /// Compares the sums from value 0 on; where one ends first, it is the lesser.
+    /// Compares the modifiers of each value from 0 on, by the sum of their bits. Where one ends
+    /// first, it is the lesser.
     #[tactic(auto, using(crate::proofs::words::Differing::cmp_at, crate::proofs::words::Differing::cmp_lengths))]
     pub fn cmp_marks(&self, other: &Marks) -> Ordering
         ensures { result ≡ slice_cmp nat_cmp self.now.marks other.now.marks }
