@@ -22,6 +22,7 @@ mod stop;
 use crate::job::Cron;
 use croner_base::errors::CronError;
 use croner_pattern::pattern::CronPattern;
+pub use explain::ParseOutcome;
 pub use fault::{
     Expected, ExpectedCharacter, ExpectedDay, ExpectedNickname, ExpectedStar, ExpectedStep,
     ExpectedText, ExpectedValue, FaultKind, FieldValues, FieldsHint, Hint, PatternFault,

@@ -14,7 +14,7 @@ use crate::notes::{Note, notes_of};
 use crate::parsed::job_of;
 use croner::Cron;
 use croner::errors::CronError;
-use croner::parser::{CronParser, PatternFault};
+use croner::parser::{CronParser, ParseOutcome, PatternFault};
 use std::alloc::{AllocError, Global};
 
 /// What croner's parser makes of the times of a line.
@@ -154,8 +154,8 @@ fn outcome_of_utf8(alloc: Global, parser: CronParser, text: &str) -> Result<Outc
     ensures { IsUtf8 text.now → IfOk result (IsOutcomeOfPattern parser text.now) }
 {
     match parser.parse_or_explain(alloc, text)? {
-        Ok(job) => Ok(Outcome::Job(job)),
-        Err(fault) => Ok(Outcome::PatternRefused(fault)),
+        ParseOutcome::Accepted(job) => Ok(Outcome::Job(job)),
+        ParseOutcome::Refused(fault) => Ok(Outcome::PatternRefused(fault)),
     }
 }
 

@@ -5,6 +5,8 @@ use Rattle.croner_base.specs.Part.{comma, contains_byte, pieces_at}
 use Rattle.croner_base.specs.declared.errors.CronError.{CronError}
 use Rattle.croner_base.specs.declared.errors.CronError.TheVariants.{OutOfMemory}
 use Rattle.croner_pattern.specs.Meaning.{Meaning}
+use Rattle.croner.specs.declared.parser.explain.ParseOutcome.{ParseOutcome}
+use Rattle.croner.specs.declared.parser.explain.ParseOutcome.TheVariants as outcomes
 use Rattle.croner.specs.declared.parser.fault.FaultKind.{FaultKind}
 use Rattle.croner.specs.declared.parser.fault.FaultKind.TheVariants as kinds
 use Rattle.croner.specs.declared.parser.fault.PatternField.{PatternField}
@@ -18,6 +20,7 @@ use Rattle.croner.specs.parser.Cut.{Piece, name_of}
 use Rattle.croner.specs.parser.Grammar.{at_sign, Refusal, Empty, Invalid, Illegal, Component, outcome, takes, without_sign}
 use Rattle.croner.specs.parser.Settings.{Settings}
 use Rattle.croner.specs.parser.Words.{words}
+use Rattle.croner.specs.Views.{job_of}
 
 -- the kind of fault that a refusal is, and the field that refused the text
 abbrev pub kind_of : Refusal → FaultKind
@@ -179,3 +182,8 @@ abbrev pub Explains : Settings → List ℕ → Result (Option PatternFault) Cro
 Explains s text (Err e) = e ≡ OutOfMemory
 Explains s text (Ok None) = (m : Meaning) × (outcome s text ≡ Ok m)
 Explains s text (Ok (Some fault)) = (refusal : Refusal) × (outcome s text ≡ Err refusal) × IsFault s text refusal fault
+
+-- what a text is read as: a job of its meaning, or a fault of its refusal
+abbrev pub IsParseOutcome : Settings → List ℕ → ParseOutcome → Type 0
+IsParseOutcome s text (outcomes.Accepted job) = outcome s text ≡ Ok (job_of job)
+IsParseOutcome s text (outcomes.Refused fault) = (refusal : Refusal) × (outcome s text ≡ Err refusal) × IsFault s text refusal fault

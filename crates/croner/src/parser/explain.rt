@@ -17,11 +17,19 @@ use crate::job::Cron;
 use croner_base::errors::CronError;
 use std::alloc::{AllocError, Global};
 
+/// The outcome of reading a text ([`CronParser::parse_or_explain`]).
+#[derive(Debug, Drop)]
+pub enum ParseOutcome {
+    /// The text is accepted: this is its job, which [`CronParser::parse`] gives too.
+    Accepted(Cron),
+    /// The text is refused: this is why, as [`CronParser::explain`] says it.
+    Refused(PatternFault),
+}
+
 impl CronParser {
-    ghost use Rattle.std.specs.Prelude.{IfErr, IfOk};
-    ghost use Rattle.croner.specs.parser.Faults.{Explains, IsFault};
-    ghost use Rattle.croner.specs.parser.Grammar.{Refusal, outcome};
-    ghost use Rattle.croner.specs.Views.{job_of};
+    ghost use Rattle.std.specs.Prelude.{IfOk};
+    ghost use Rattle.croner.specs.parser.Faults.{Explains, IsFault, IsParseOutcome};
+    ghost use Rattle.croner.specs.parser.Grammar.{outcome};
 
     /// Why a text is refused; `None` if [`CronParser::parse`] accepts it.
     ///
@@ -39,8 +47,8 @@ impl CronParser {
         ensures { Explains self.now text.now result }
     {
         match self.parse_or_explain(alloc, text) {
-            Ok(Ok(_job)) => Ok(None),
-            Ok(Err(fault)) => Ok(Some(fault)),
+            Ok(ParseOutcome::Accepted(_job)) => Ok(None),
+            Ok(ParseOutcome::Refused(fault)) => Ok(Some(fault)),
             Err(AllocError) => Err(CronError::OutOfMemory),
         }
     }
@@ -53,21 +61,18 @@ impl CronParser {
     /// ```
     /// let parser = CronParser::new();
     /// match parser.parse_or_explain(alloc, "0 9 * * MONDAY")? {
-    ///     Ok(job) => schedule(job)?,
-    ///     Err(fault) => mark(fault.start, fault.end)?, // the letter at byte 11
+    ///     ParseOutcome::Accepted(job) => schedule(job)?,
+    ///     ParseOutcome::Refused(fault) => mark(fault.start, fault.end)?, // the letter at byte 11
     /// }
     /// ```
-    pub fn parse_or_explain(
-        &self,
-        alloc: Global,
-        text: &str,
-    ) -> Result<Result<Cron, PatternFault>, AllocError>
-        ensures job { IfOk result (λ r. IfOk r (λ job. outcome self.now text.now ≡ Ok (job_of job))) }
-        ensures fault { IfOk result (λ r. IfErr r (λ f. (refusal : Refusal) × (outcome self.now text.now ≡ Err refusal) × IsFault self.now text.now refusal f)) }
+    pub fn parse_or_explain(&self, alloc: Global, text: &str) -> Result<ParseOutcome, AllocError>
+        ensures { IfOk result (IsParseOutcome self.now text.now) }
     {
         match self.parse_text(alloc, text) {
-            Ok(pattern) => Ok(Ok(Cron { pattern })),
-            Err(Stop::Refused(cause)) => Ok(Err(self.fault_of(alloc, text, cause)?)),
+            Ok(pattern) => Ok(ParseOutcome::Accepted(Cron { pattern })),
+            Err(Stop::Refused(cause)) => {
+                Ok(ParseOutcome::Refused(self.fault_of(alloc, text, cause)?))
+            }
             Err(Stop::OutOfMemory) => Err(AllocError),
         }
     }
