@@ -63,7 +63,7 @@ fn without_return(text: &[u8]) -> &[u8]
     front
 }
 
-/// The same, where a carriage return at the end of the text doesn't count.
+/// The same as `has_hidden`, but that a carriage return at the end of the text doesn't count.
 pub fn has_hidden_within(text: &[u8]) -> bool
     ensures { result ≡ has_hidden_within text.now }
 {

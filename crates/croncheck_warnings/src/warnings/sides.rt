@@ -1,4 +1,4 @@
-//! The days of a month that each day field names by itself, for what `either-day` tells.
+//! The days of a month that each day field names by itself, which `either-day` tells.
 ghost use Rattle.std.specs.Prelude.{◌≡◌, not, true, IfOk, IfErr};
 ghost use Rattle.std.specs.Int.{IsInRange};
 ghost use Rattle.croner_base.specs.Civil.{weekday_index};
