@@ -13,7 +13,7 @@ const WATCHED_SECONDS: i64 = 32_140_800;
 /// Changes are told from this second on: 0001-01-03T00:00:00 UTC.
 const FIRST_WATCHED: i64 = -62_135_424_000;
 
-/// And before this one: 4999-12-30T00:00:00 UTC.
+/// Changes are told before this second: 4999-12-30T00:00:00 UTC.
 const END_WATCHED: i64 = 95_617_411_200;
 
 /// The changes after a start that are told: those of its clock's table that are watched.

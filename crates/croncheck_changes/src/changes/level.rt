@@ -11,7 +11,7 @@ use croner::errors::CronError;
 use croner::time::table::{ClockTable, TableTime};
 use std::alloc::Global;
 
-/// So many seconds beside a range a job is looked at.
+/// How many seconds before and after a range a job is looked at: three hours.
 const SECONDS_BESIDE: i64 = 10_800;
 
 /// A clock on which each wall second is its own instant.
