@@ -1,4 +1,4 @@
-//! What a job's times are told.
+//! What is told of a job's times.
 
 use super::often::push_often;
 use super::previous::push_previous;
@@ -13,7 +13,7 @@ use cronplan_forms::Ahead;
 use jiff::Timestamp;
 use std::alloc::{AllocError, Global};
 
-// What a job's times are told. That it never runs is said by its warning.
+// What is told of a job's times. That it never runs is said by its warning.
 pub(crate) fn push_told(
     alloc: Global,
     text: &mut String,
@@ -72,7 +72,7 @@ pub(crate) fn push_starts(text: &mut String, run: &Run<'_>) -> Result<(), AllocE
     push_made_up(text, run)
 }
 
-/// Puts after a text what another zone's clock shows at a second, if it is to be shown.
+/// Appends to a text what another zone's clock shows at a second, if such a zone is to be shown. The only error is lack of memory.
 pub fn push_other_clock(
     text: &mut String,
     shared: &Shared<'_>,
