@@ -33,7 +33,7 @@ pub struct Fields<'l> {
     pub years: &'l [u8],
 }
 
-/// The fields of a job's times as they are written. A nickname has none.
+/// The fields of a job's times as they are written. `None` for a nickname.
 pub fn fields_of_schedule(schedule: &[u8]) -> Option<Fields<'_>>
     ensures { option_map fields_seen result ≡ fields_of_schedule schedule.now }
 {
@@ -63,7 +63,7 @@ fn fields_of_five(text: &[u8]) -> Fields<'_>
     }
 }
 
-/// The fields of a pattern as they are written, where it has five to seven words.
+/// The fields of a pattern as they are written. `None` unless it has five to seven words. The only error is lack of memory.
 pub fn fields_of_pattern(alloc: Global, text: &str) -> Result<Option<Fields<'_>>, AllocError>
     ensures { IfOk result (λ fields. AreFieldsOfPattern text.now (option_map fields_seen fields)) }
 {

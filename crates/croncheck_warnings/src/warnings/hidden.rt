@@ -5,7 +5,7 @@ ghost use Rattle.croncheck_warnings.specs.Hidden.{is_control, is_hiding, begins_
 use super::command::has_carriage_return;
 use crontab::bytes::rest_of;
 
-/// The first byte of these characters in UTF-8.
+/// The first byte in UTF-8 of the characters that nobody sees or that turn the order.
 const FIRST: u8 = 0xe2;
 
 fn is_control(byte: u8) -> bool

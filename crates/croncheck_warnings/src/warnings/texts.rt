@@ -122,7 +122,7 @@ impl OtherWarning {
 }
 
 /// The text of a warning. That of `either-day` says the dates, if there are some, and that of `preset` what the program
-/// does.
+/// does. The only error is lack of memory.
 pub fn warning_text(
     alloc: Global,
     warning: Warning,
