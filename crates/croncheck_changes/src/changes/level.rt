@@ -57,7 +57,7 @@ impl Level {
         next_from(job, &self.time_at(from))
     }
 
-    /// The first scheduled second from a wall second on, up to the one before another.
+    /// The first scheduled second from the wall second `from` on, and before `end`. `None` if there is none.
     #[tactic(auto, using(crate::proofs::LevelClock::seconds_within))]
     pub fn scheduled_within(&self, job: &Cron, from: i64, end: i64) -> Option<i64>
         requires from { IsSearched from }
