@@ -31,13 +31,13 @@ pub enum Told<'t> {
     /// Never, since a field names nothing.
     Nothing,
     Runs {
-        /// What its times mean, in words, as a line without a full stop: the text of its summary.
+        /// What its times mean, in words, as one line without a full stop: the text of its summary.
         description: String,
         /// The runs of a pattern, or what cron starts of a crontab's job.
         runs: Runs<'t>,
-        /// The same up to the start, the latest first, where they are asked for.
+        /// The runs up to the start, the latest first, if they are asked for.
         previous: Option<Runs<'t>>,
-        /// How often it starts, where that is asked for.
+        /// How often it starts, if that is asked for.
         often: Option<Often>,
         /// No year that it names is left at the start.
         is_past: bool,
