@@ -33,7 +33,8 @@ const THIS_ZONE: &str = "this machine";
 
 const CHECKED_ZONE: &str = "that machine";
 
-/// Plans the jobs of the files: as texts, unless a file is asked for.
+/// Plans the jobs of the files, as texts unless a file is asked for, and answers the status of the call. The error says why there is no
+/// answer.
 pub fn plan(
     rt: &HostRuntime,
     call: &Call<'_>,
