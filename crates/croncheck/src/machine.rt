@@ -15,7 +15,7 @@ use std::os::unix::fs::MetadataExt;
 use std::path::Path;
 use std::{fs, io};
 
-/// What is read in place of a pipe or a device, for which a reading would wait.
+/// What is read in place of a pipe or a device, on which a read could wait.
 const NOTHING: &str = "/dev/null";
 
 /// The files of the machine, and its standard input.
@@ -24,14 +24,14 @@ pub struct Machine<'r> {
     rt: &'r HostRuntime,
     // The crontabs whose owner, mode and links are looked at.
     root: &'r Root,
-    // Those of users are, too.
+    // Those of users are looked at, too.
     has_spool: bool,
     users: Option<Users<'r>>,
 }
 
 impl<'r> Machine<'r> {
-    /// One whose crontabs stand there. Owner, mode and links are looked at of those of the system, and with `has_spool` of those of
-    /// users, where these are known.
+    /// The machine whose crontabs stand at the paths of `root`. Owner, mode and links are looked at for the crontabs of the system,
+    /// and with `has_spool` also for those of users, if these are known.
     pub fn new(
         rt: &'r HostRuntime,
         root: &'r Root,
@@ -46,13 +46,13 @@ impl<'r> Machine<'r> {
         }
     }
 
-    /// Its users, where they are known.
+    /// Its users, if they are known.
     pub fn users(&self) -> Option<Users<'r>> {
         self.users
     }
 
-    /// Its crontabs: that of the system, the folder of further ones and that of the users'. What isn't there is said on standard
-    /// error.
+    /// Its crontabs: that of the system, the folder of further ones, and the folder of the users' crontabs. If one isn't there,
+    /// standard error says so. The error says that memory is lacking.
     pub fn crontabs(&self) -> io::Result<Vec<Asked<'r>>> {
         let mut files = Vec::new(self.rt.alloc());
         self.push_crontab(&mut files, self.root.crontab.as_str(), Dialect::System)?;
@@ -78,7 +78,7 @@ impl<'r> Machine<'r> {
         Ok(())
     }
 
-    // Whose a crontab is whose owner, mode and links are looked at.
+    // Whose a crontab is, if its owner, mode and links are looked at.
     fn keeper(&self, name: &str) -> Option<Keeper> {
         match kept_in(self.root, name)? {
             Kept::System => Some(Keeper::System),
@@ -185,12 +185,12 @@ fn facts_of(rt: &HostRuntime, name: &str) -> Option<Facts> {
     })
 }
 
-/// Says that a file of a machine isn't there.
+/// Says on standard error that a file of a machine isn't there.
 pub fn announce_missing(rt: &HostRuntime, name: &str) -> Result<(), AllocError> {
     announce(rt, name, "isn't there")
 }
 
-/// Says something of a file of a machine.
+/// Says something of a file of a machine on standard error.
 pub fn announce(rt: &HostRuntime, name: &str, text: &str) -> Result<(), AllocError> {
     let name = shown_text(rt.alloc(), name.as_bytes())?;
     let _ = eprintln!(rt; "croncheck: {name}: {text}");

@@ -263,7 +263,7 @@ fn problem_of_no_zone(rt: &HostRuntime, zones: &TimeZoneDatabase, word: &str) ->
     }
 }
 
-// What is told of it; and the zone of that place, where it is the name of one.
+// What is told of the word; and if it is the name of a place, the zone of that place.
 fn zone_refusal(
     rt: &HostRuntime,
     zones: &TimeZoneDatabase,
@@ -340,7 +340,7 @@ struct ShownZones<'z> {
     other: Option<TimeZone<'z>>,
 }
 
-// The second from which on runs are listed, and how many or up to when.
+// The second from which runs are listed, and how many or up to when.
 #[derive(Clone, Copy)]
 struct Start {
     second: i64,
@@ -450,7 +450,7 @@ fn shared_by<'z>(zones: ShownZones<'z>, settings: &Settings<'_>) -> Shared<'z> {
     }
 }
 
-// Where runs are listed from: at the begin of the month where the grid of one is asked for and no word says it.
+// Where runs are listed from. If no word says it and the grid of a month is asked for, that is the beginning of the month.
 fn from_of(call: &Call<'_>, zone: &TimeZone<'_>, now: i64) -> Moment {
     if !call.plan.questions.month || !is_now(call.from) || is_until(call.span) {
         return call.from;
@@ -468,8 +468,8 @@ fn is_until(span: Span) -> bool {
     }
 }
 
-// Up to where is listed where the words don't say it: so many runs, and where a plan is asked something, to the end of the month for the grid of
-// one, and else seven days of the zone's clock, today's rest among them.
+// What is listed if the words don't say it: a number of runs; or if a plan is asked something, all up to the end of the month for the grid
+// of a month, and else seven days of the zone's clock, the rest of today among them.
 fn listing_of(call: &Call<'_>, count: u32, zone: &TimeZone<'_>, first: i64) -> Listing {
     if call.plan.questions.is_none() && call.plan.file.is_none() {
         return Listing::Count(count);

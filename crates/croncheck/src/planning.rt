@@ -22,7 +22,7 @@ use std::env::VarError;
 use std::io::{ErrorKind, Write};
 use std::{env, io, str};
 
-/// The status where a file isn't read.
+/// The status if a file can't be read.
 const UNREAD: u8 = 3;
 
 /// What the calendar of a plan is called, and its page.
@@ -33,7 +33,8 @@ const THIS_ZONE: &str = "this machine";
 
 const CHECKED_ZONE: &str = "that machine";
 
-/// Plans the jobs of the files: as texts, unless a file is asked for.
+/// Plans the jobs of the files, as texts unless a file is asked for, and answers the status of the call. The error says why there is no
+/// answer.
 pub fn plan(
     rt: &HostRuntime,
     call: &Call<'_>,
@@ -65,7 +66,7 @@ fn planner_of(
     Ok(Planner::new(rt.alloc(), asked, names))
 }
 
-// What the zones are called on whose clocks a plan is shown.
+// The names of the zones on whose clocks a plan is shown.
 fn names_of(
     rt: &HostRuntime,
     call: &Call<'_>,
@@ -88,7 +89,7 @@ fn clock_names(
     Ok(ClockNames { zone, other })
 }
 
-// What the zone is called whose clock is shown: by its name, else as the call has it, a machine's by the machine.
+// The name of the zone whose clock is shown: its own name, or else that by which the call has it; a machine's zone is named by the machine.
 fn name_of_zone(
     rt: &HostRuntime,
     call: &Call<'_>,
@@ -106,7 +107,7 @@ fn name_of_zone(
     String::from_str(rt.alloc(), THIS_ZONE)
 }
 
-// The same of the zone that is shown besides; empty where there is none.
+// The name of the zone that is shown besides, found in the same way; empty if there is none.
 fn name_of_other_zone(
     rt: &HostRuntime,
     call: &Call<'_>,
@@ -153,7 +154,7 @@ fn take_files<'s, 't, F: Form + Drop>(
     Ok(Taken { sink, status })
 }
 
-// Writes the calendar of the files' jobs. The status is 1 where it hasn't all starts.
+// Writes the calendar of the files' jobs. The status is 1 if it doesn't have all starts.
 fn write_calendar(
     rt: &HostRuntime,
     call: &Call<'_>,

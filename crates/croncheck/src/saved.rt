@@ -7,12 +7,12 @@ use std::{fs, io};
 /// What stands after the name of a file while it is written.
 const PART: &str = ".part";
 
-/// Writes bytes as a file. They are written beside it, to the same name with `.part` after it, which then gets its name: so who reads it sees
-/// the file as it was, or all of them. A link leads to the file that is written, whose mode stays; what is no regular file, as a pipe, is written
-/// to as it stands.
+/// Writes bytes as a file. They are first written beside it, to a file with `.part` after its name, which then gets its name. So whoever
+/// reads the file sees it as it was, or with all of the bytes. If the name is a link to a file, that file is written. A file that is there
+/// keeps its mode. If it isn't a regular file, but a pipe, say, the bytes are written to it directly.
 ///
-/// An error leaves the file as it was. One that is `AlreadyExists` says that the file with `.part` is there: another call writes it, or one was
-/// ended while it did.
+/// An error leaves a regular file as it was; what isn't one may have got a part of the bytes. The error `AlreadyExists` says that the file
+/// with `.part` is there: another call is writing it, or one was ended while it did.
 pub fn save(rt: &HostRuntime, name: &str, bytes: &[u8]) -> io::Result<()> {
     match fs::metadata(rt, name) {
         Ok(found) if found.is_file() => {
@@ -48,7 +48,7 @@ fn write_part(rt: &HostRuntime, part: &str, bytes: &[u8]) -> io::Result<()> {
     keep_or_remove(rt, part, written)
 }
 
-// What was done with a file: where it wasn't, the file is removed.
+// The result of writing a file: if that failed, the file is removed.
 fn keep_or_remove(rt: &HostRuntime, part: &str, done: io::Result<()>) -> io::Result<()> {
     if done.is_err() {
         let _ = fs::remove_file(rt, part);

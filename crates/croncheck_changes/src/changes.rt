@@ -26,12 +26,12 @@ use std::alloc::Global;
 
 const HOURS_PER_DAY: usize = 24;
 
-/// A change of a clock. Wall seconds are counted as if the wall clock never changed, from 1970-01-01T00:00:00 on it.
+/// A change of a clock. Wall seconds are counted from 1970-01-01T00:00:00 on a clock that never changes, with days of 24 hours.
 #[derive(Clone, Copy, Drop)]
 pub struct Change {
     /// Its instant, in seconds since 1970-01-01T00:00:00 UTC.
     pub instant: i64,
-    /// The wall second that the clock would have shown there.
+    /// The wall second that the clock would show there without the change.
     pub before: i64,
     /// The wall second that it shows there.
     pub after: i64,
@@ -40,9 +40,9 @@ pub struct Change {
 /// Which wall seconds of a change are meant.
 #[derive(Clone, Copy, Drop)]
 pub enum Range {
-    /// Those that it skips: from `before` up to the one before `after`.
+    /// The seconds that it skips: from `before` up to the one before `after`.
     Gap,
-    /// Those that it shows twice: from `after` up to the one before `before`.
+    /// The seconds that it shows twice: from `after` up to the one before `before`.
     Repeated,
 }
 
@@ -57,8 +57,8 @@ pub enum Fate {
     Once,
     /// It is shown twice, and a run is made at both instants.
     Twice,
-    /// It is shown twice, and the run is made at the earlier instant alone, though the job names all hours: for as long as the clock shows
-    /// minutes again, it isn't started.
+    /// It is shown twice, and the run is made at the earlier instant alone, though the job names all hours: while the clock shows minutes
+    /// for the second time, the job isn't started.
     Paused,
 }
 
@@ -69,13 +69,13 @@ pub struct Meeting {
     pub range: Range,
     /// The first wall second in the range that is scheduled.
     pub second: i64,
-    /// What becomes of it by what runs the line.
+    /// What becomes of that second, which depends on what runs the line.
     pub fate: Fate,
 }
 
 /// The changes of a clock after a start, up to 372 days after it: a change on a certain Sunday comes again after 364 or 371.
 ///
-/// Those count that come from 0001-01-03T00:00:00 UTC on and before 4999-12-30T00:00:00 UTC.
+/// Only changes from 0001-01-03T00:00:00 UTC on and before 4999-12-30T00:00:00 UTC count.
 #[derive(Drop)]
 pub struct Changes<'t> {
     /// The clock.
@@ -108,8 +108,8 @@ impl<'t> Changes<'t> {
         })
     }
 
-    /// The first of them that meets a job: a scheduled second lies in such a range of the change. `None` where none does. Those of which all hours
-    /// are named no change meets, unless cron runs the job and it isn't starred.
+    /// The first change that meets a job: one of the job's scheduled seconds lies in this range of the change. `None` if there is none. A
+    /// job that names all hours is met by no change, unless cron runs it and it isn't starred.
     pub fn first_meeting(&self, job: &Cron, runner: Runner, range: Range) -> Option<Meeting>
         ensures { MatchOption result
             ((c : Change) (w : ℤ) → ¬ (Meets (table_moment self.now.start).zone (table_moment self.now.start).instant runner (job_of job.now) range c w))
@@ -165,7 +165,7 @@ impl<'t> Changes<'t> {
         }
     }
 
-    // The same of a pattern, which croner runs.
+    // What becomes of a scheduled second of a pattern, which croner runs.
     fn fate_in_croner(&self, job: &Cron, range: Range, change: Change, second: i64) -> Fate
         requires told { IsToldOf self.now.start change }
         requires first { IsFirstIn (job_of job.now) range change second }
@@ -233,7 +233,7 @@ fn is_starless(runner: Runner) -> bool
     }
 }
 
-// What becomes of a job's second, where all hours may be named.
+// What becomes of a second of a job, given whether the job names all hours.
 fn fate_with_all_hours(names_all: bool, fate: Fate) -> Fate
     ensures { result ≡ fate_with_all_hours names_all fate }
 {

@@ -1,4 +1,4 @@
-//! Why a call can't be answered, or not whole.
+//! Why a call can't be answered, or can't be answered in full.
 
 use croncheck_runs::clock::NoClock;
 use croncheck_runs::clock::stop::Stop;
@@ -7,31 +7,32 @@ use std::{fmt, io};
 /// Why a call can't be answered.
 #[derive(Drop)]
 pub enum Problem {
-    /// The words of the call are not read.
+    /// The words of the call can't be read.
     Words(io::Error),
-    /// The zone isn't read.
+    /// The zone can't be read.
     Zone(jiff::Error),
-    /// The word of the zone is none. What is wrong with it.
+    /// The word that should be a zone isn't one: this says what is wrong with it.
     NoZone(String),
-    /// The zone has no clock.
+    /// The zone has no clock from the start of the call on.
     Clock(NoClock),
-    /// The machine's clock isn't read.
+    /// The machine's clock can't be read.
     Now(jiff::Error),
-    /// The file of the users isn't read.
+    /// The file of the users can't be read.
     Users(io::Error),
-    /// The folder of the machine that is to be checked isn't read.
+    /// The folder of the machine that is to be checked can't be read.
     Root(io::Error),
     /// The zone's clock never shows the date and time of `--from`.
     SkippedFrom,
-    /// The same for `--until`.
+    /// The zone's clock never shows the date and time of `--until`.
     SkippedUntil,
-    /// `--until` lies before `--from`.
+    /// `--until` is earlier than `--from`.
     UntilBeforeFrom,
-    /// The reports are not written.
+    /// The reports can't be written.
     Unwritten(io::Error),
-    /// The file of a plan isn't written.
+    /// The file of a plan can't be written.
     Unsaved(io::Error),
-    /// A file of the call isn't read, as it was told, so that no file of a plan is written.
+    /// A file of the call couldn't be read, of which was told already; so no file of a plan is
+    /// written.
     Unread,
     /// Memory was asked for and not found.
     OutOfMemory,
@@ -41,7 +42,8 @@ impl Problem {
     ghost use Rattle.croncheck_command.specs.Problem.{status_of_problem};
     ghost use Rattle.std.specs.Prelude.{◌≡◌};
 
-    /// The status of the process: 2 where a word names no moment, or an end before the start; else 3.
+    /// The status of the process: 2 if the zone's clock never shows the moment of `--from` or
+    /// `--until`, or if `--until` is earlier than `--from`; else 3.
     pub fn status(&self) -> u8
         ensures { result ≡ status_of_problem self.now }
     {
@@ -104,7 +106,7 @@ fn write_reason<W: fmt::Write>(f: &mut fmt::Formatter<W>, reason: NoClock) -> fm
     }
 }
 
-// Where a zone's clock stops before runs can be listed, and from when on they can be.
+// Where a zone's clock stops, so that no runs can be listed, and from when on they can be.
 fn write_stop<W: fmt::Write>(
     f: &mut fmt::Formatter<W>,
     stop: Stop,

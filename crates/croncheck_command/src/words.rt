@@ -23,7 +23,7 @@ use options::{program, verb_of, verb_with, verbs_with};
 use planning::{output, plan_asked};
 use std::alloc::{AllocError, Global};
 
-/// The last line of what is told where the words of a call are not of its form.
+/// The last line of what is told if the words of a call are misused.
 pub const USAGE: &str =
     "usage: croncheck [COMMAND] [OPTIONS] [FILE|PATTERN]... (croncheck --help lists the commands)";
 
@@ -49,7 +49,7 @@ pub const LEAST_WIDTH: usize = 20;
 
 pub const MOST_WIDTH: usize = 1_000;
 
-/// How many runs of a line are searched where none is told: the first, whose month is that of the days which `either-day` tells.
+/// How many runs of a line are searched if none is told: the first one, for the days of its month that `either-day` tells.
 const CHECKED_RUNS: u32 = 1;
 
 /// The zone of a call that has none: no text of it depends on a clock.
@@ -58,16 +58,16 @@ const NO_ZONE: &str = "UTC0";
 /// How the word of a moment is written.
 const MOMENT_FORM: &str = "write 2024-10-27T00:00:00, 2024-10-27, @1729980000 or now";
 
-/// What is told of a date that the calendar hasn't.
+/// What is told of a date that the calendar doesn't have.
 const NO_DATE: &str = "there is no such date: look at its month and its day";
 
 /// How many bytes the form of a date has.
 const DATE_LENGTH: usize = 10;
 
-/// The place of standard input where no file is named: it stands after all words.
+/// The place of standard input if no file is named: after all words.
 const AFTER_ALL: usize = usize::MAX;
 
-/// What is told where standard input has a name, and isn't read.
+/// What is told if standard input is given a name, but isn't read.
 const NAMES_NOTHING: &str =
     "error: --stdin-name is the name of standard input, which isn't read here: write - among the files\n";
 
@@ -81,40 +81,41 @@ pub struct Call<'w> {
     pub verb: Verb,
     /// `local`, a POSIX rule, or the name of a zone. UTC with [`Verb::Describe`].
     pub zone: &'w str,
-    /// The same of the zone whose clock is shown too, if there is one. Not with [`Verb::Check`] and [`Verb::Describe`], and in texts alone: with a
-    /// file of a plan there is none.
+    /// The zone whose clock is shown too, if there is one; it is written as `zone` is. Not with [`Verb::Check`], [`Verb::Describe`], or the
+    /// calendar of a plan.
     pub show_zone: Option<&'w str>,
     /// Where runs are listed from.
     pub from: Moment,
-    /// One run with [`Verb::Check`], and none with [`Verb::Describe`], which tell none.
+    /// Up to where runs are listed: one run with [`Verb::Check`] and none with [`Verb::Describe`], which both tell of no runs.
     pub span: Span,
-    /// How many runs up to there are told too, from 1 to 1000, if any are. Only with [`Verb::Show`] and [`Verb::Next`].
+    /// How many runs up to `from` are told too, from 1 to 1000, if any are. Only with [`Verb::Show`] and [`Verb::Next`].
     pub previous: Option<u32>,
-    /// How often a job starts is told too. Only with these two.
+    /// How often a job starts is told too. Only with [`Verb::Show`] and [`Verb::Next`].
     pub tells_often: bool,
     /// The parser of patterns.
     pub parser: CronParser,
     /// The program whose reading of patterns is told too. Not with [`Verb::Plan`].
     pub preset: Option<Preset>,
     pub language: Tongue,
-    /// The form in which is told. Only with [`Verb::Check`]; [`Verb::Show`] has texts and JSON alone.
+    /// The form of what [`Verb::Check`] and [`Verb::Show`] tell. [`Verb::Show`] has only texts and JSON.
     pub format: Format,
-    /// How wide lines are on a terminal, if the words say that.
+    /// How many columns a line has on a terminal, if the words say that.
     pub width: Option<usize>,
     pub color: Color,
-    /// The status is 1 where a line has a warning, too. Only with these two.
+    /// The status is 1 also where a line or the name of a file has a warning. Only with [`Verb::Check`] and [`Verb::Show`].
     pub is_strict: bool,
-    /// Each job is compared with those before it. Only with these two.
+    /// Each job is compared with those before it. Only with [`Verb::Check`] and [`Verb::Show`].
     pub compares_jobs: bool,
-    /// The names of warnings that are allowed. Only with these two.
+    /// The names of warnings that are allowed. Only with [`Verb::Check`] and [`Verb::Show`].
     pub allowed: Vec<&'w str>,
-    /// The file of the users that there are, if one is named. Only with those two and [`Verb::Plan`].
+    /// The file of the users, if one is named. Only with [`Verb::Check`], [`Verb::Show`] and [`Verb::Plan`].
     pub users: Option<&'w str>,
-    /// The folder below which the files of a machine stand, if a machine is checked. Only with those three, and no file is named then.
+    /// The folder below which the files of a machine stand, if a machine is checked; then no file is named. Only with [`Verb::Check`],
+    /// [`Verb::Show`] and [`Verb::Plan`].
     pub root: Option<&'w str>,
-    /// The files, in order: standard input where none is named and no machine is checked. None with [`Verb::Next`] and [`Verb::Describe`].
+    /// The files, in order: standard input if none is named and no machine is checked. Empty with [`Verb::Next`] and [`Verb::Describe`].
     pub files: Vec<Asked<'w>>,
-    /// The patterns, with these two alone.
+    /// The patterns. Empty unless with [`Verb::Next`] or [`Verb::Describe`].
     pub patterns: Vec<&'w str>,
     /// What is asked of a plan, with [`Verb::Plan`].
     pub plan: PlanAsked,
@@ -127,17 +128,17 @@ pub struct Call<'w> {
 pub enum Verb {
     /// What is wrong in files, and what to beware of.
     Check,
-    /// What each line of files is told.
+    /// What each line of files means, when it runs, and what is found of it.
     Show,
     /// The starts of all jobs of files in one list, in order of time.
     Plan,
-    /// When patterns run, which are words of the call.
+    /// When patterns run that are words of the call.
     Next,
-    /// What such patterns mean.
+    /// What patterns mean that are words of the call.
     Describe,
 }
 
-/// The form in which is told.
+/// The form in which findings and reports are told.
 #[derive(Clone, Copy, Drop)]
 pub enum Format {
     /// Texts for a person.
@@ -152,7 +153,7 @@ pub enum Format {
     Json,
 }
 
-/// Where texts have colours.
+/// When texts have colours.
 #[derive(Clone, Copy, Drop)]
 pub enum Color {
     /// On a terminal, unless the environment's `NO_COLOR` says otherwise.
@@ -164,7 +165,7 @@ pub enum Color {
 /// Up to where runs are listed.
 #[derive(Clone, Copy, Drop)]
 pub enum Span {
-    /// So many, from 0 to 1000.
+    /// This many runs, from 0 to 1000.
     Count(u32),
     Until(Moment),
 }
@@ -174,7 +175,7 @@ pub enum Span {
 pub enum NoCall {
     /// The words ask for this text: help, or the version.
     Asked(String),
-    /// A word is not of its form: what is told of it.
+    /// A word of the call can't be used: this is what is told of it.
     Misused(String),
     OutOfMemory,
 }
@@ -185,7 +186,7 @@ impl From<AllocError> for NoCall {
     }
 }
 
-/// Reads the words of a call, the first of which is the program's name.
+/// Reads the words of a call, the first of which is the program's name. The error says why there is nothing to check.
 ///
 /// A call without a verb is one of [`Verb::Check`].
 pub fn read_call<'w>(alloc: Global, words: &'w [String]) -> Result<Call<'w>, NoCall>
@@ -415,7 +416,7 @@ fn places<'m>(matches: &'m ArgMatches<'_>, id: &str) -> &'m [usize] {
     matches.indices_of(id).unwrap_or(&[])
 }
 
-// What is told of an option that no file has anything of, where files are named.
+// What is told of an option that would concern no file, if files are named.
 fn told_of_misplaced_option(
     alloc: Global,
     matches: &ArgMatches<'_>,
@@ -571,7 +572,7 @@ fn fits_at(place: usize, byte: u8) -> bool {
     }
 }
 
-// What is told of the word of an option that is not of its form.
+// What is told of the word of an option that doesn't have the option's form.
 fn told_of_misuse(alloc: Global, option: &str, word: &str, form: &str) -> NoCall {
     told_by_text(misuse(alloc, option, word, form))
 }

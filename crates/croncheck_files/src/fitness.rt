@@ -8,10 +8,12 @@ const ROOT: u32 = 0;
 /// The mode that a user's crontab has: its owner alone reads and writes it.
 const USER_MODE: u32 = 0o600;
 
-/// How many modes there are: 12 bits of what the system says say who may do what, and those above them what the file is.
+/// How many modes there are: the low 12 bits of what the system gives say who may do what, and those above them what the
+/// file is.
 const MODES: u32 = 0o10000;
 
-/// How many values one digit of a mode has: the last is that of all others, and in front of it stands that of the group.
+/// How many values one digit of a mode has: the last digit says what all others may do, and the one in front of it what
+/// the group may.
 const DIGITS: u32 = 8;
 
 /// Whose a crontab is.
@@ -19,24 +21,24 @@ const DIGITS: u32 = 8;
 pub enum Keeper {
     /// The system's: `/etc/crontab`, or a file in `/etc/cron.d`.
     System,
-    /// That of the user of this number, in the folder of the users' crontabs.
+    /// A user's, who has this number: a file in the folder of the users' crontabs.
     User(u32),
-    /// One in that folder whose name no user has.
+    /// No user's: a file in that folder whose name no user has.
     NoUser,
 }
 
 /// What the file system says of a file.
 #[derive(Clone, Copy, Drop)]
 pub struct Facts {
-    /// The number of the owner of the symbolic link of its name, where that is one.
+    /// The number of the owner of the symbolic link, if the file's name is one.
     pub link_owner: Option<u32>,
-    /// The number of its owner. What stands here and below is of the file that such a link leads to.
+    /// The number of its owner. This field and those below are of the file that such a link leads to.
     pub owner: u32,
     /// It is neither a folder, a pipe, a socket nor a device.
     pub is_regular: bool,
     /// Its mode, as `stat(2)` has it.
     pub mode: u32,
-    /// How many names it has.
+    /// How many names it has: its hard links.
     pub links: u64,
 }
 
@@ -64,7 +66,7 @@ pub enum Unfit {
 }
 
 impl Unfit {
-    /// The name by which it is known.
+    /// The name of the reason in reports, as `file-owner`. Reasons of one kind share a name.
     pub fn name(self) -> &'static str
         ensures { result.now ≡ unfit_name self }
     {
@@ -77,7 +79,7 @@ impl Unfit {
         }
     }
 
-    /// What is said of it.
+    /// The reason in words, without a full stop.
     pub fn text(self) -> &'static str
         ensures { result.now ≡ unfit_text self }
     {
@@ -94,7 +96,7 @@ impl Unfit {
         }
     }
 
-    /// The same, as a line.
+    /// The reason in words, as a line with its line feed.
     pub fn line(self) -> &'static str
         ensures { result.now ≡ unfit_line self }
     {
@@ -112,7 +114,7 @@ impl Unfit {
     }
 }
 
-/// Why cron ignores a crontab for what the file system says of its file, if it does: the first thing at which cron stops.
+/// Why cron ignores a crontab by what the file system says of its file, if it does: the first reason at which cron stops.
 pub fn unfit_of(keeper: Keeper, facts: Facts) -> Option<Unfit>
     ensures { result ≡ unfit_of keeper facts }
 {
@@ -176,7 +178,7 @@ fn is_writable(mode: u32) -> bool
     may_write(mode / DIGITS) || may_write(mode)
 }
 
-// Whether those may write of whom the last digit of a mode is.
+// Whether those for whom the last digit of a mode stands may write.
 fn may_write(mode: u32) -> bool
     ensures { result ≡ may_write mode }
 {

@@ -9,7 +9,7 @@ use crontab::line::Dialect;
 use std::alloc::{AllocError, Global};
 use std::path::Path;
 
-/// What a file is that a call asks for.
+/// What a file that a call asks for turns out to be.
 #[derive(Clone, Copy, Drop)]
 pub enum Sort {
     /// It is no crontab, but another of cron's files.
@@ -20,7 +20,7 @@ pub enum Sort {
     File,
 }
 
-/// What becomes of what stands in a folder.
+/// What becomes of a file, or of a folder, that stands in a folder.
 #[derive(Clone, Copy, Drop)]
 pub enum Treatment {
     /// Nothing is said of it: its name begins with a dot, or it is a leftover of dpkg or of an editor.
@@ -35,7 +35,8 @@ pub enum Treatment {
     Read,
 }
 
-/// What a file is that a call asks for, which may be a folder.
+/// What a file that a call asks for turns out to be. `is_folder` says whether its name is that of a
+/// folder.
 pub fn sort_of(is_folder: bool, file: &Asked<'_>) -> Sort
     ensures { result ≡ sort_of is_folder (asked_seen file.now) }
 {
@@ -48,7 +49,8 @@ pub fn sort_of(is_folder: bool, file: &Asked<'_>) -> Sort
     }
 }
 
-/// What becomes of a file of this name in a folder, which may be a folder itself.
+/// What becomes of a file of this name in a folder. `is_folder` says whether the name is that of a folder
+/// itself.
 pub fn treatment_of(is_folder: bool, file: &Asked<'_>, name: &str) -> Treatment
     ensures { result ≡ treatment_of is_folder (asked_seen file.now) name.now }
 {
@@ -65,7 +67,8 @@ pub fn treatment_of(is_folder: bool, file: &Asked<'_>, name: &str) -> Treatment
     }
 }
 
-// Whether a file is another of cron's than a crontab by its name, of which no option says how it is read.
+// Whether a file by its name is one of cron's other files than crontabs, and no option says how it is
+// read.
 fn is_no_crontab(file: &Asked<'_>) -> bool
     ensures { result ≡ is_no_crontab (asked_seen file.now) }
 {
@@ -133,7 +136,7 @@ fn is_name_byte(byte: u8) -> bool
     byte.is_ascii_alphanumeric() || byte == b'_' || byte == b'-'
 }
 
-/// The path of a file in a folder.
+/// The path of a file in a folder. The only error is lack of memory.
 pub fn path_in(alloc: Global, folder: &str, name: &str) -> Result<String, AllocError>
     ensures { IfOk result (λ path. string_bytes path ≡ path_in folder.now name.now) }
 {

@@ -15,9 +15,9 @@ pub const STANDARD_INPUT: &str = "-";
 pub struct Asked<'w> {
     /// Its word, by which it is opened.
     pub word: &'w str,
-    /// The name under which it is told.
+    /// The name by which reports call it.
     pub name: &'w str,
-    /// How its lines are read, if an option says so. Else its name does.
+    /// How its lines are read, if an option says that. `None`: its name says it.
     pub kind: Option<Dialect>,
 }
 
@@ -33,7 +33,7 @@ impl Asked<'_> {
     }
 }
 
-/// Where the options of kinds stand among the words of a call, counted from 1.
+/// Where the options that say how files are read stand among the words of a call, counted from 1.
 #[derive(Clone, Copy)]
 pub struct Places<'p> {
     /// Those of `--user`.
@@ -46,8 +46,8 @@ pub struct Places<'p> {
 
 /// The files of these words, which stand at these places among the words of a call.
 ///
-/// Each is read as the last option of a kind in front of it says, and where none stands there, by its name. Standard input
-/// has the name `stdin_name`. The error says that memory is lacking.
+/// Each is read as the last such option in front of it says, and if none stands there, by its name. Standard input has the
+/// name `stdin_name`. The only error is lack of memory.
 #[tactic(auto, using(crate::proofs::AskedFiles::asked_next))]
 pub fn asked_files<'w>(
     alloc: Global,
@@ -118,7 +118,7 @@ fn kind_at(options: Places<'_>, place: usize) -> Option<Dialect>
     }
 }
 
-/// The last of some places in front of one, and 0 where there is none.
+/// The last of some places that lie in front of `place`, and 0 if there is none.
 pub fn last_place_before(place: usize, places: &[usize]) -> usize
     ensures { result ≡ last_place_before place places.now }
 {

@@ -6,31 +6,32 @@ use crate::folder::path_in;
 use std::alloc::{AllocError, Global};
 use std::path::Path;
 
-/// The files of a machine.
+/// The paths of a machine's files.
 #[derive(Drop)]
 pub struct Root {
     /// The crontab of the system.
     pub crontab: String,
-    /// The folder of further ones.
+    /// The folder of further crontabs of the system.
     pub folder: String,
     /// The folder of the users' crontabs, each of which has its user's name.
     pub spool: String,
-    /// The file of the users.
+    /// The file of the users, as `/etc/passwd`.
     pub users: String,
-    /// The file of the zone, or a link to it.
+    /// The file of the machine's time zone, or a link to it.
     pub clock: String,
 }
 
 /// Where a crontab of a machine stands.
 #[derive(Clone, Copy, Drop)]
 pub enum Kept {
-    /// It is the crontab of the system, or stands in the folder of further ones.
+    /// It is the crontab of the system, or stands in the folder of further crontabs of the system.
     System,
     /// It stands in the folder of the users' crontabs.
     Spool,
 }
 
-/// The files of the machine whose files stand below this folder. The error says that memory is lacking.
+/// The paths of the files of the machine whose files stand below this folder. The only error is lack of
+/// memory.
 pub fn root_at(alloc: Global, folder: &str) -> Result<Root, AllocError>
     ensures { IfOk result (λ root. root_seen root ≡ root_at folder.now) }
 {
@@ -48,7 +49,7 @@ pub fn root_at(alloc: Global, folder: &str) -> Result<Root, AllocError>
     })
 }
 
-/// Where the file of a path stands, if it is a crontab of the machine by it.
+/// Where the crontab of a path stands. `None` if the path isn't that of a crontab of the machine.
 pub fn kept_in(root: &Root, path: &str) -> Option<Kept>
     ensures { result ≡ kept_in (root_seen root.now) path.now }
 {

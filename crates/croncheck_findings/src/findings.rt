@@ -39,11 +39,12 @@ pub struct Extent {
 /// Something that is found of a line or of a file.
 pub struct Finding {
     pub severity: Severity,
-    /// The name by which it is known, as `either-day`. Of a line that is refused it is the kind of the refusal, as `minutes`.
+    /// The name by which it is known, as `either-day`. For a line that is refused it is the kind of the refusal, as `minutes`.
     pub name: &'static str,
-    /// The name of the field that it is of, where it is of one.
+    /// The name of the field that it is about, if it is about one.
     pub field: Option<&'static str>,
-    /// That of the field, and else of the line's times or its setting; of a refused line that of the fault. That of a file is empty.
+    /// The place of the field, or else that of the line's times or its setting; for a refused line, the place of the fault. It is empty for
+    /// a finding of a file.
     pub extent: Extent,
     /// What it says. It has no more of the line than the bytes at fault.
     pub text: String,
@@ -62,11 +63,13 @@ impl Drop for Finding {
     }
 }
 
-/// What is found of a line with this report, which is given without its line feed. Of a job these are in this order its notes, its own
-/// warnings, those of changes of the clock, an earlier job that is the same, and the names that are allowed in vain; of a refused line why
-/// it is refused, its notes, and what the program of a preset takes; of a comment the first name that it allows and that no warning has.
+/// What is found of a line with this report. The line is given without its line feed.
 ///
-/// That the last line has no line feed, or that there are too many, is found of the file. The only error is want of memory.
+/// Of a job these are, in this order, its notes, its own warnings, those of changes of the clock, an earlier job that is the same, and the
+/// names that are allowed in vain. Of a refused line it is why it is refused, its notes, and what the program of a preset accepts; of a
+/// setting its warnings; and of a comment the first name that it allows and that no warning has.
+///
+/// That the last line has no line feed, or that there are too many lines, is found of the file. The only error is lack of memory.
 pub fn findings_of(
     alloc: Global,
     line: &[u8],
@@ -79,8 +82,8 @@ pub fn findings_of(
     Ok(found)
 }
 
-/// What is found of a pattern with this report where its meaning alone is told: what another program makes otherwise of one that is read, and
-/// else the same.
+/// What is found of a pattern with this report if only its meaning is told: for a pattern that is read, what another program reads
+/// differently; for any other, what `findings_of` gives. The only error is lack of memory.
 pub fn findings_described(
     alloc: Global,
     pattern: &[u8],
@@ -182,7 +185,7 @@ fn push_refused(
     push_readings(alloc, found, extent, why.readings_taken())
 }
 
-// What another program takes.
+// What another program accepts.
 fn push_readings(
     alloc: Global,
     found: &mut Vec<Finding>,

@@ -26,7 +26,8 @@ pub enum Style {
     Github,
 }
 
-/// Writes an annotation for each finding of each line, and after them for those of the file. Of a good line it writes nothing.
+/// Writes an annotation for each finding of each line, and after these for each finding of the file. Of a good line it writes
+/// nothing.
 #[derive(Clone, Copy, Drop)]
 pub struct Annotator {
     pub style: Style,

@@ -54,7 +54,7 @@ fn kind_of<'k>(kind: &'k str, report: &Report<'_, '_>) -> &'k str
 
 // ---- objects
 
-// The object of a line of this kind of entry, of which this is found.
+// The object of a line, by the kind of its entry and what is found of it.
 pub(crate) fn object_of(
     alloc: Global,
     shared: &Shared<'_>,
@@ -82,7 +82,7 @@ pub(crate) fn object_of(
     })
 }
 
-// What a job is told; null where the line is none.
+// What is told of a job; null if the line is no job.
 fn job_value(
     alloc: Global,
     shared: &Shared<'_>,
@@ -197,7 +197,7 @@ fn times_value(alloc: Global, shared: &Shared<'_>, times: &Told<'_>) -> Result<V
     }
 }
 
-// When a job runs whose times have a meaning, but for the runs before the start.
+// When a job runs, if its times have a meaning; but for the runs before the start.
 #[derive(Clone, Copy)]
 struct Named<'r, 't> {
     description: &'r str,
@@ -206,7 +206,7 @@ struct Named<'r, 't> {
     is_past: bool,
 }
 
-// The object without them.
+// The object without the runs before the start.
 fn object_without_previous(
     alloc: Global,
     shared: &Shared<'_>,
@@ -232,7 +232,7 @@ fn object_without_previous(
     }
 }
 
-// The object with them.
+// The object with the runs before the start.
 fn object_with_previous(
     alloc: Global,
     shared: &Shared<'_>,
@@ -364,7 +364,7 @@ fn second_or_null(alloc: Global, second: Option<i64>) -> Result<Value, AllocErro
 
 // ---- findings
 
-// A list of an object for each.
+// A list with an object for each finding.
 fn findings_value(alloc: Global, found: &[Finding]) -> Result<Value, AllocError>
     ensures { IfOk result (λ v. view v ≡ array (items_of (map finding_object found.now))) }
 {

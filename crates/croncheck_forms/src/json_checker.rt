@@ -15,8 +15,8 @@ use croncheck_report::report::Report;
 use std::io;
 use std::io::Write;
 
-/// Writes the object of each line of which something is found, and after them that of their file, each on a line of its
-/// own. Of a good line it writes nothing.
+/// Writes the object of each line of which something is found, and after the lines of a file the object of the file,
+/// each on a line of its own. Of a good line it writes nothing.
 #[derive(Clone, Copy, Drop)]
 pub struct JsonChecker;
 

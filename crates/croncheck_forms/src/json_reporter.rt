@@ -16,7 +16,8 @@ use croncheck_report::report::Report;
 use std::io;
 use std::io::Write;
 
-/// Writes the object of each line, and after them that of their file, each on a line of its own.
+/// Writes the object of each line, and after the lines of a file the object of the file, each on a
+/// line of its own.
 #[derive(Clone, Copy, Drop)]
 pub struct JsonReporter;
 
@@ -97,7 +98,7 @@ pub(crate) fn write_file<W: Write>(
     )
 }
 
-/// Writes the object of a line of this kind of entry, of which this is found.
+/// Writes the object of a line, by the kind of its entry and what is found of it.
 pub(crate) fn write_object<W: Write>(
     terms: &Terms<'_, '_>,
     kind: &str,

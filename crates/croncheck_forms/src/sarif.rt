@@ -32,7 +32,7 @@ const BETWEEN: &str = ",\n";
 const TAIL: &str = "\n]}]}\n";
 
 /// Writes one object of SARIF 2.1.0: the tool with its rules, and a result for each finding of each line and of each file as a
-/// whole. A result is written as it comes, so that no more memory is taken than one takes.
+/// whole. Each result is written as it comes, so that it takes the memory of one result at a time.
 #[derive(Drop)]
 pub struct Sarif {
     // What stands in front of the results.
@@ -40,9 +40,9 @@ pub struct Sarif {
 }
 
 impl Sarif {
-    /// One for a version of this program with these rules, which say what the names of findings stand for.
+    /// The form for this version of the program, with these rules, which say what the names of findings stand for.
     ///
-    /// The only error is want of memory.
+    /// The only error is lack of memory.
     pub fn new(alloc: Global, version: &str, rules: &[Rule]) -> Result<Sarif, AllocError>
         ensures { IfOk result (λ sarif. string_bytes sarif.head ≡ head_text version.now rules.now) }
     {

@@ -34,7 +34,7 @@ pub(crate) fn first_second_of(date: Date, zone: &TimeZone<'_>) -> Option<i64>
     }
 }
 
-// The second before the next date begins, of a date that the zone's clock shows.
+// The second before the next date begins, for a date that the zone's clock shows.
 pub(crate) fn last_second_of(date: Date, zone: &TimeZone<'_>) -> Option<i64>
     ensures { IsLastOf (plain_zone zone.now) date result }
 {
@@ -64,8 +64,8 @@ fn second_before(begin: Option<i64>) -> Option<i64>
     }
 }
 
-// The second with which a date begins: that at which the zone's clock shows midnight, the earlier one of two, or the first after what it skips
-// there. There is none where what lies around midnight isn't held.
+// The second with which a date begins: the one at which the zone's clock shows midnight, the earlier one of two, or the first one after
+// what the clock skips there. `None` if `jiff` doesn't hold the seconds around midnight.
 fn begin_of(date: Date, zone: &TimeZone<'_>) -> Option<i64>
     ensures { MatchOption result (IsNoBegin (plain_zone zone.now) date) (IsBegin (plain_zone zone.now) date) }
 {

@@ -21,7 +21,7 @@ use std::alloc::{AllocError, Global};
 /// How many bytes `YYYY-MM-DDTHH:MM:SS` has.
 const DATETIME_LENGTH: usize = 19;
 
-/// And `YYYY-MM-DD`.
+/// How many bytes `YYYY-MM-DD` has.
 const DATE_LENGTH: usize = 10;
 
 /// A moment that a word names.
@@ -33,12 +33,12 @@ pub enum Moment {
     Second(i64),
     /// A date and time of a zone's clock, in whole seconds of the years 0000 to 9999.
     Civil(DateTime),
-    /// A date of a zone's clock, of these years: the seconds from where it begins to where the next one does.
+    /// A date of a zone's clock, in the same years: the seconds from where it begins to where the next date does.
     Date(Date),
 }
 
-/// The moment that a word names: of one of the forms `now`, `@SECONDS`, `YYYY-MM-DDTHH:MM:SS`, `YYYY-MM-DD`, where the second fits 64 bits and
-/// the date and time exists. There is none exactly where the word is of none of these forms. The only error is want of memory.
+/// The moment that a word names, which has one of the forms `now`, `@SECONDS`, `YYYY-MM-DDTHH:MM:SS` and `YYYY-MM-DD`; the second has to
+/// fit 64 bits, and the date and time has to exist. `None` exactly for any other word. The only error is lack of memory.
 pub fn read_moment(alloc: Global, word: &str) -> Result<Option<Moment>, AllocError>
     ensures { IfOk result (IsRead word.now) }
 {
@@ -64,7 +64,7 @@ fn read_shown(alloc: Global, word: &str) -> Result<Option<Moment>, AllocError>
     }
 }
 
-// The second of a word that is `@` and one.
+// The second of a word that is `@` and a second.
 fn read_second(alloc: Global, word: &str) -> Result<Option<i64>, AllocError>
     ensures found { IfOk result (λ found. IfSome found (λ second. moment_text (Moment.Second second) ≡ word.now)) }
     ensures none { IfOk result (λ found. found ≡ None → (second : ℤ) → FitsSigned w64 second → ¬ (moment_text (Moment.Second second) ≡ word.now)) }
@@ -138,10 +138,11 @@ fn is_same(text: &str, other: &str) -> bool
     text == other
 }
 
-/// The second of a moment in a zone, counted from 1970-01-01T00:00:00 UTC; that of `now` is handed in. Of two seconds at which the zone's
-/// clock shows a date and time it is the earlier one, of a date the one with which it begins. There is none exactly where the clock shows a
-/// date and time at neither of the two instants that the zone's rules give it, or a date not where it begins: the clock skips it, or no
-/// timestamp holds it.
+/// The second of a moment in a zone, counted from 1970-01-01T00:00:00 UTC; the second of `Now` is handed in. If the zone's clock shows a
+/// date and time at two seconds, it is the earlier one; for a date it is the one with which the date begins.
+///
+/// `None` exactly if the clock shows a date and time at neither of the two instants that the zone's rules give it, or doesn't show a date
+/// where that begins: the clock skips it, or no timestamp holds it.
 pub fn second_of(moment: Moment, zone: &TimeZone<'_>, now: i64) -> Option<i64>
     ensures { IsSecondOf (plain_zone zone.now) now moment result }
 {
@@ -153,8 +154,8 @@ pub fn second_of(moment: Moment, zone: &TimeZone<'_>, now: i64) -> Option<i64>
     }
 }
 
-/// The last second up to a moment in a zone: its second, and of a date the last before the next one begins. There is none where the clock
-/// never shows the moment.
+/// The last second up to a moment in a zone: the moment's own second, or for a date the last one before the next date begins. It is counted
+/// from 1970-01-01T00:00:00 UTC. `None` if the clock never shows the moment.
 pub fn last_up_to(moment: Moment, zone: &TimeZone<'_>, now: i64) -> Option<i64>
     ensures { IsLastUpTo (plain_zone zone.now) now moment result }
 {
@@ -166,8 +167,8 @@ pub fn last_up_to(moment: Moment, zone: &TimeZone<'_>, now: i64) -> Option<i64>
     }
 }
 
-/// After which second runs come from a moment on, whose second is this: of a date its first second counts, of another moment its second
-/// doesn't.
+/// The second after which runs are listed from a moment on, given the moment's own second. A run at the first second of a date counts; a
+/// run at the second of another moment doesn't.
 pub fn start_from(moment: Moment, second: i64) -> i64
     ensures { IsHeldSecond second → result ≡ start_from moment second }
 {
@@ -211,8 +212,8 @@ pub fn date_at(zone: &TimeZone<'_>, second: i64) -> Option<Date>
     }
 }
 
-/// The last second before the seventh date after the one that a zone's clock shows at a second: that of the sixth, unless the clock skips it.
-/// There is none where `jiff` holds no such second or date, or nothing around the begin of the seventh.
+/// The last second before the seventh date after the one that a zone's clock shows at a second. That is the last second of the sixth date,
+/// unless the clock skips that date. `None` if `jiff` holds no such second or date, or not the seconds around the beginning of the seventh.
 pub fn last_of_week(zone: &TimeZone<'_>, second: i64) -> Option<i64>
     ensures { IsEndOfWeek (plain_zone zone.now) second result }
 {
@@ -272,8 +273,8 @@ fn date_after(date: Date) -> Option<Date>
     }
 }
 
-/// The last second before the month that comes after the date which a zone's clock shows at a second, also where the clock skips the last
-/// date. There is none where `jiff` holds no such second, or nothing around the begin of that month.
+/// The last second of the month that a zone's clock shows at a second: the one before the next month begins, even if the clock skips the
+/// month's last date. `None` if `jiff` holds no such second, or not the seconds around the beginning of the next month.
 pub fn last_of_month(zone: &TimeZone<'_>, second: i64) -> Option<i64>
     ensures { IsEndOfMonth (plain_zone zone.now) second result }
 {

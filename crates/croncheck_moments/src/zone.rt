@@ -40,19 +40,19 @@ impl fmt::Display for Quote<'_> {
 /// What is wrong with the word of a zone that is neither a rule nor a name of the database.
 #[derive(Clone, Copy, Drop)]
 pub enum ZoneFault<'w> {
-    /// It isn't near to a rule.
+    /// It doesn't look like a rule.
     Name,
     /// It begins with `TZ=`, and this zone stands after it.
     Setting(Quote<'w>),
     /// It begins with a colon, and this zone stands after it.
     Colon(Quote<'w>),
-    /// It begins as a rule does, with this in place of the hours.
+    /// It begins as a rule does, but has this in place of the hours.
     Hours(Quote<'w>),
-    /// It names summer time, and lacks the dates of its changes: this is the word.
+    /// It names summer time, but lacks the dates of its changes: this is the whole word.
     NoDates(&'w str),
     /// This is a rule without summer time, and dates follow.
     NoSummer(&'w str),
-    /// It has dates, though not two.
+    /// It has dates, but not two.
     NotTwoDates,
     /// What stands in front of the dates is wrong.
     Front(Quote<'w>),
@@ -63,7 +63,7 @@ pub enum ZoneFault<'w> {
 }
 
 /// What is told of the word of a zone that is neither a rule nor a name of the database: the word, what is wrong with it, and what to
-/// write. The only error is want of memory.
+/// write. The only error is lack of memory.
 pub fn refusal_of(alloc: Global, word: &str) -> Result<String, AllocError>
     ensures { IfOk result (λ text. string_bytes text ≡ refusal_text word.now) }
 {
@@ -153,7 +153,7 @@ fn hours_of<'w>(alloc: Global, word: &'w str) -> Result<Option<&'w str>, AllocEr
     }
 }
 
-// The same of a word whose name ends with `>`: this stands before it, and that after it.
+// The same for a word whose name ends with `>`, given what stands before the `>` and after it.
 fn hours_in_quotes<'w>(
     alloc: Global,
     front: &str,
@@ -274,7 +274,7 @@ fn split(text: &str, at: char) -> Option<(&str, &str)>
     text.split_once(at)
 }
 
-/// What is said of the word after it: what is wrong with it, and what to write.
+/// What stands after the word in a message: what is wrong with it, and what to write.
 impl fmt::Display for ZoneFault<'_> {
     ghost use Rattle.std.specs.Prelude.{Some};
     ghost use Rattle.croncheck_moments.specs.Zone.{fault_text};
@@ -325,7 +325,7 @@ impl fmt::Display for ZoneFault<'_> {
 }
 
 /// What is said of a rule with the name `GMT` or `UTC` whose clock isn't that of UTC: which way it is off, since POSIX counts the hours
-/// behind UTC, and how the other way is written.
+/// behind UTC, and how the other way is written. `None` for any other word. The only error is lack of memory.
 pub fn note_of(alloc: Global, word: &str, zone: &TimeZone<'_>) -> Result<Option<String>, AllocError>
     ensures { IfOk result (λ note. option_map (λ text. string_bytes text) note ≡ note_of word.now (ahead_at (plain_zone zone.now) (pos 0))) }
 {
@@ -333,7 +333,7 @@ pub fn note_of(alloc: Global, word: &str, zone: &TimeZone<'_>) -> Result<Option<
     note_by(alloc, word, ahead)
 }
 
-// The same by how many seconds the clock is ahead of UTC; behind it where the number is negative.
+// The same, given how many seconds the clock is ahead of UTC, or behind it if the number is negative.
 fn note_by(alloc: Global, word: &str, ahead: i32) -> Result<Option<String>, AllocError>
     ensures { IfOk result (λ note. option_map (λ text. string_bytes text) note ≡ note_of word.now ahead) }
 {
@@ -372,7 +372,7 @@ fn has_no_letter(bytes: &[u8]) -> bool
     bytes.iter().all(|byte| !byte.is_ascii_alphabetic())
 }
 
-// What is said of a rule of this name and these hours, whose clock is so many seconds ahead of UTC; behind it where the number is negative.
+// What is said of a rule of this name and these hours, whose clock is `ahead` seconds ahead of UTC, or behind it if the number is negative.
 fn note_text(alloc: Global, name: &str, hours: &str, ahead: i32) -> Result<String, AllocError>
     ensures { IfOk result (λ text. string_bytes text ≡ note_text name.now hours.now ahead) }
 {

@@ -19,7 +19,7 @@ use crontab_runs::CrontabJob;
 use std::alloc::{AllocError, Global};
 use std::collections::BTreeMap;
 
-/// How many days of 86,400 seconds the span has, where its end isn't given.
+/// How many days of 86,400 seconds the span has if its end isn't given.
 pub const SPAN_DAYS: i64 = 7;
 
 const SPAN_SECONDS: i64 = SPAN_DAYS * DAY;
@@ -27,20 +27,20 @@ const SPAN_SECONDS: i64 = SPAN_DAYS * DAY;
 /// The seconds of a day, as wall seconds are counted.
 const DAY: i64 = SECONDS_PER_DAY as i64;
 
-/// How often a job starts in a span after a start, which doesn't count itself.
+/// How often a job starts in a span after a start. A start of the job at that second itself doesn't count.
 #[derive(Clone, Copy, Drop)]
 pub struct Often {
     /// The second of the start, counted from 1970-01-01T00:00:00 UTC.
     pub from: i64,
-    /// The last second whose starts are counted: each after the start and up to it is, and none after it.
+    /// The last second whose starts are counted: each start after `from` and up to this second counts, and none after it.
     pub until: i64,
-    /// Whether that is the end of the span.
+    /// Whether that is the end of the span, and if not, why.
     pub reach: Reach,
     /// How many starts these are. Where cron starts the job several times at one second, each of them counts.
     pub starts: u64,
-    /// How many of them there are on one date of the zone's clock at most.
+    /// The most of these starts on one date that the zone's clock shows.
     pub most_a_day: u64,
-    /// How many seconds one start is after the one before it at least: 0 where two are at one second. `None` where there are fewer than two.
+    /// The shortest distance in seconds from one start to the next: 0 if two are at one second. `None` if there are fewer than two starts.
     pub shortest: Option<u64>,
 }
 
@@ -49,15 +49,16 @@ pub struct Often {
 pub enum Reach {
     /// To the end of the span.
     Whole,
-    /// To the last of the most runs that are listed.
+    /// To the last of `MOST_RUNS` runs, the most that are listed.
     Cut,
-    /// To the end of the clock's window, after which the span goes on.
+    /// To the end of the clock's window, which comes before the end of the span.
     Window,
-    /// To the last run in front of a search that was refused.
+    /// To the last run before a search that was refused.
     Failed,
 }
 
-/// The end of the span after a start: the second up to which runs are listed, or that with which seven days end.
+/// The last second of the span after a start: the one up to which runs are listed, or, if a number of runs is listed, the one seven days
+/// after the start.
 pub fn span_end(start: i64, listing: Listing) -> i64
     requires { IsTrue (is_table_second start) }
     ensures { result ≡ span_end start listing }
@@ -68,9 +69,10 @@ pub fn span_end(start: i64, listing: Listing) -> i64
     }
 }
 
-/// How often a pattern runs after a start up to a second, where that is asked for, on a clock whose window ends there or not.
+/// How often a pattern runs after `start` and up to `until`. `None` if there is no `until`: then it isn't asked. If the window of the
+/// clock ends early, `last` is its last second.
 ///
-/// It takes the room of a listing up to a second. The only error is `OutOfMemory`.
+/// It takes memory for a listing of `MOST_RUNS` runs. The only error is `OutOfMemory`.
 pub fn often_of_pattern(
     alloc: Global,
     job: &Cron,
@@ -90,7 +92,7 @@ pub fn often_of_pattern(
     }
 }
 
-/// The same of what cron starts of a crontab's job.
+/// How often cron starts a crontab's job, told as `often_of_pattern` tells it of a pattern. The only error is `OutOfMemory`.
 pub fn often_of_crontab(
     alloc: Global,
     job: &CrontabJob,
@@ -288,7 +290,7 @@ fn shortest_of(runs: &[Run<'_>]) -> Option<u64>
     shortest
 }
 
-// The shortest distance of a start of a run from the one before it, of which the first is at this second, if there is one before it.
+// The shortest distance of a start of a run from the start before it. The run before is at the second `before`, if there is one.
 fn distance_of(before: Option<i64>, run: &Run<'_>) -> Option<u64>
     ensures { result ≡ distance_of before run.now }
 {

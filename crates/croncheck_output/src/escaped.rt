@@ -13,8 +13,9 @@ use crontab::bytes::{Kind, cut, rest_of};
 use crontab::setting::has;
 use std::alloc::{AllocError, Global};
 
-/// Some bytes as they are shown. Text in UTF-8 stands as it is, but for a character that a terminal acts on or that nobody sees: it
-/// stands as `\t`, `\n`, `\r` or by its number, as `\u{1b}`. A byte that is no text stands as `\xFF`. The only error is want of memory.
+/// Some bytes as they are shown. Text in UTF-8 stands as it is, but for a character that a terminal acts on or that nobody sees: such a
+/// character stands as `\t`, `\n`, `\r` or by its number, as `\u{1b}`. A byte that isn't part of such text stands by its value, as
+/// `\xFF`. The only error is lack of memory.
 pub fn shown_text(alloc: Global, bytes: &[u8]) -> Result<String, AllocError>
     ensures shown { IfOk result (λ text. string_bytes text ≡ bytes_shown bytes.now) }
     ensures harmless { IfOk result (λ text. IsTrue (list_all is_harmless (string_bytes text))) }
@@ -25,7 +26,7 @@ pub fn shown_text(alloc: Global, bytes: &[u8]) -> Result<String, AllocError>
     Ok(text)
 }
 
-/// Puts some bytes after a text, as they are shown. The only error is want of memory; what then stands after the text is not said.
+/// Appends some bytes to a text, as they are shown. The only error is lack of memory; the text's end is then unspecified.
 pub fn push_shown(text: &mut String, bytes: &[u8]) -> Result<(), AllocError>
     ensures { OnOk result (string_bytes text.new ≡ string_bytes text.old ++ bytes_shown bytes.now) }
 {
@@ -36,7 +37,8 @@ pub fn push_shown(text: &mut String, bytes: &[u8]) -> Result<(), AllocError>
     Ok(())
 }
 
-// Puts the first character of some bytes after a text, or their first byte where they begin with none. What stands after it is left.
+// Appends the first character of some bytes to a text, or their first byte where they begin with no character. Returns the bytes after
+// it.
 fn push_front<'b>(text: &mut String, bytes: &'b [u8]) -> Result<&'b [u8], AllocError>
     requires { 0 < length bytes.now }
     ensures shown { OnOk result (string_bytes text.new ≡ string_bytes text.old ++ front_shown (decoded bytes.now).char bytes.now) }
@@ -58,8 +60,8 @@ fn push_front<'b>(text: &mut String, bytes: &'b [u8]) -> Result<&'b [u8], AllocE
     }
 }
 
-/// Some bytes as they are shown, but for a backslash, which stands as two: so it is told apart from those of a character that stands
-/// by its name or number. The only error is want of memory.
+/// Some bytes as they are shown, but for a backslash, which stands as two: so it can be told from the backslash of a character that
+/// stands by its name or number. The only error is lack of memory.
 pub fn exact_text(alloc: Global, bytes: &[u8]) -> Result<String, AllocError>
     ensures { IfOk result (λ text. string_bytes text ≡ exact_text bytes.now) }
 {
@@ -68,8 +70,8 @@ pub fn exact_text(alloc: Global, bytes: &[u8]) -> Result<String, AllocError>
     Ok(text)
 }
 
-/// Puts some bytes after a text, as they are shown, with another text in place of each byte of one value. The only error is want of
-/// memory; what then stands after the text is not said.
+/// Appends some bytes to a text, as they are shown, with another text in place of each byte of one value. The only error is lack of
+/// memory; the text's end is then unspecified.
 pub(crate) fn push_replaced(
     text: &mut String,
     bytes: &[u8],
@@ -85,7 +87,7 @@ pub(crate) fn push_replaced(
     push_shown(text, rest)
 }
 
-// Puts after a text what stands before the first such byte, as it is shown, and the other text. What stands after it is left.
+// Appends to a text what stands before the first such byte, as it is shown, and the other text. Returns the bytes after it.
 #[tactic(auto, using(crate::proofs::SpacedBytes::one_piece))]
 fn push_piece<'b>(
     text: &mut String,

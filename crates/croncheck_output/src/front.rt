@@ -12,14 +12,16 @@ pub const COMMAND_BYTES: usize = 40;
 /// What stands where something is left out.
 const LEFT_OUT: &str = "..";
 
-/// Puts bytes of a line after a text, as they are shown, a tab as a space.
+/// Appends bytes of a line to a text, as they are shown, but a tab as a space. The only error is lack of memory; the
+/// text's end is then unspecified.
 pub fn push_spaced(text: &mut String, bytes: &[u8]) -> Result<(), AllocError>
     ensures { OnOk result (string_bytes text.new ≡ string_bytes text.old ++ spaced bytes.now) }
 {
     push_replaced(text, bytes, b'\t', " ")
 }
 
-/// Puts the first bytes of a text after another, so many at most, and a mark where there are more.
+/// Appends the first of some bytes to a text as `push_spaced` does, at most `most`, and `..` if there are more. No
+/// character of UTF-8 is cut. The error is as that of `push_spaced`.
 pub fn push_front(text: &mut String, bytes: &[u8], most: usize) -> Result<(), AllocError>
     ensures { OnOk result (string_bytes text.new ≡ string_bytes text.old ++ front_text most bytes.now) }
 {
@@ -28,7 +30,7 @@ pub fn push_front(text: &mut String, bytes: &[u8], most: usize) -> Result<(), Al
     push_left_out(text, !rest.is_empty())
 }
 
-/// Puts a mark after a text, where something is left out of it.
+/// Appends `..` to a text if something is left out of it. The error is as that of `push_spaced`.
 pub fn push_left_out(text: &mut String, is_left_out: bool) -> Result<(), AllocError>
     ensures { OnOk result (string_bytes text.new ≡ string_bytes text.old ++ left_out_text is_left_out) }
 {
@@ -38,7 +40,8 @@ pub fn push_left_out(text: &mut String, is_left_out: bool) -> Result<(), AllocEr
     Ok(())
 }
 
-/// Where bytes may be cut in two, at most so many in front, with no character of UTF-8 cut.
+/// How many of some bytes stand in front where they are cut in two: at most `most`, so that no character of UTF-8 is
+/// cut.
 pub fn cut_at(bytes: &[u8], most: usize) -> usize
     ensures value { result ≡ cut_at most bytes.now }
     ensures bound { result ≤ length bytes.now }
@@ -50,7 +53,7 @@ pub fn cut_at(bytes: &[u8], most: usize) -> usize
     }
 }
 
-// The last place up to this one where no character of UTF-8 is cut, if it is one of the last four, and else this one.
+// The last place up to `most` where no character of UTF-8 is cut, if that is one of the last four; else `most`.
 fn start_at(bytes: &[u8], most: usize) -> usize
     ensures value { result ≡ start_at most bytes.now }
     ensures bound { result ≤ most }

@@ -6,7 +6,7 @@ use crate::severity::Severity;
 use crate::wrapped::wrapped_text;
 use std::alloc::{AllocError, Global};
 
-/// How many bytes less than the width a line has that is broken: those of the blanks and the word in front of it.
+/// By how many bytes a broken line is shorter than the width: those of the blanks and the word in front of it.
 const BYTES_IN_FRONT: usize = 10;
 
 /// What stands between the lines of a text that is broken.
@@ -18,16 +18,16 @@ const NO_COLOR: &str = "\u{1b}[0m";
 /// How texts are shown.
 #[derive(Clone, Copy, Drop)]
 pub struct Look {
-    /// The columns of a line, where texts are broken into lines.
+    /// How many columns a line has. `None`: texts aren't broken into lines.
     pub width: Option<usize>,
     /// The words that say how grave a finding is, and refusals, stand in colours.
     pub has_color: bool,
 }
 
 impl Look {
-    /// A text, broken into lines where lines have a width.
+    /// A text, broken into lines if lines have a width.
     ///
-    /// The only error is want of memory.
+    /// The only error is lack of memory.
     pub fn broken_text(&self, alloc: Global, text: &str) -> Result<String, AllocError>
         ensures { IfOk result (λ lines. string_bytes lines ≡ broken_text self.now.width text.now) }
     {
@@ -37,9 +37,9 @@ impl Look {
         }
     }
 
-    /// A text in the colour of a severity, where there are colours.
+    /// A text, in the colour of a severity if there are colours.
     ///
-    /// The only error is want of memory.
+    /// The only error is lack of memory.
     pub fn painted_text(
         &self,
         alloc: Global,

@@ -5,7 +5,7 @@ ghost use Rattle.croncheck_output.specs.Output.{WritesText, WritesApart, WritesI
 use std::io;
 use std::io::Write;
 
-/// A writer of texts, and whether it refused one.
+/// A writer of texts, and whether it has refused one.
 #[derive(Drop)]
 pub struct Output<W> {
     out: W,
@@ -15,7 +15,7 @@ pub struct Output<W> {
 }
 
 impl<W: Write> Output<W> {
-    /// One that writes to `out`. Nothing was written yet.
+    /// An output that writes to `out`, and has written nothing yet.
     pub fn new(out: W) -> Output<W>
         ensures out { result.out ≡ out }
         ensures begun { result.is_begun ≡ false }
@@ -28,7 +28,7 @@ impl<W: Write> Output<W> {
         }
     }
 
-    /// What it writes to.
+    /// The writer that it writes to.
     pub fn out(&self) -> &W
         ensures { result.now ≡ self.now.out }
     {
@@ -64,7 +64,7 @@ impl<W: Write> Output<W> {
         written
     }
 
-    /// Writes a text, if there is one, with an empty line in front unless it is the first that is written so.
+    /// Writes a text, unless it is empty, with an empty line in front. The first text that is written so has none.
     ///
     /// The error is the writer's. It isn't known then how much of the text was written.
     #[tactic(auto, using(crate::proofs::Outputs::no_text, crate::proofs::Outputs::first_text, crate::proofs::Outputs::next_text))]
@@ -108,7 +108,7 @@ impl<W: Write> Output<W> {
         self.write_both(head, text)
     }
 
-    /// Writes what ends a list of items: `head` in front of it where there is none.
+    /// Writes `tail`, which ends a list of items. If the list has no item, `head` stands in front of it.
     ///
     /// The error is as that of `write_item`.
     pub fn end_items(&mut self, head: &str, tail: &str) -> io::Result<()>
@@ -131,9 +131,9 @@ impl<W: Write> Output<W> {
         }
     }
 
-    /// Passes on what was written.
+    /// Flushes the writer, so that it passes on what was written.
     ///
-    /// The error is the writer's. What was written is as it was, also then.
+    /// The error is the writer's. What was written stays as it was, with an error too.
     pub fn flush(&mut self) -> io::Result<()>
         ensures kept { IsFlushed (written_of W.contents self.old) (written_of W.contents self.new) }
         ensures refused { self.new.is_refused ≡ (if is_err result then true else self.old.is_refused) }

@@ -6,10 +6,10 @@ ghost use Rattle.croncheck_output.specs.Private.Wrapping.{takes, front_of, lengt
 
 use std::alloc::{AllocError, Global};
 
-/// A text in lines: a line takes the next word where it has at most so many bytes with it. Between two lines stands `between`.
+/// A text broken into lines: a line takes the next word if it then has at most `most` bytes. Between two lines stands `between`.
 ///
-/// The lines with spaces between them are the text. No line has more bytes than that, and so none more columns, unless it is one
-/// word. The only error is want of memory.
+/// Joined by spaces, the lines are the text. No line has more than `most` bytes, and so none has more columns, unless it is a
+/// single word. The only error is lack of memory.
 #[tactic(auto, using(crate::proofs::WrappedLines::lines_in_order, crate::proofs::WrappedLines::lines_within))]
 pub fn wrapped_text(
     alloc: Global,

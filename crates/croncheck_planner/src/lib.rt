@@ -1,4 +1,5 @@
-//! The form that makes a plan of all jobs: what starts after a start, as a list, as answers, as a calendar or a page.
+//! The form that makes a plan of all jobs: their starts after a moment, as a list, as answers, or as a calendar, a
+//! page or JSON.
 #![tactic(auto)]
 
 pub mod plan;

@@ -19,43 +19,43 @@ use cronplan::{Frequent, JobStart, LATEST_END, Plan, Span};
 use cronplan_jobs::{Schedule, plan_of};
 use std::alloc::Global;
 
-/// How long the spans are in which so many moments are looked for, one after the other, in seconds: an hour, a day, a week, 31 and 366 days,
-/// and eight of these years.
+/// The lengths in seconds of the spans in which a number of moments is looked for, one span after the other: an hour, a day, a week, 31
+/// days, 366 days, and eight times 366 days.
 const LENGTHS: [i64; 6] = [3_600, 86_400, 604_800, 2_678_400, 31_622_400, 252_979_200];
 
-/// The starts of jobs after a start.
+/// The starts of jobs after the start of a call.
 #[derive(Drop)]
 pub struct Found {
     pub plan: Plan,
-    /// The span in which starts were looked for. That of the plan ends before it where a plan keeps no more.
+    /// The span in which starts were looked for. The span of the plan ends earlier if there are more starts than a plan keeps.
     pub span: Span,
     /// The jobs that are left out of the plan, since they start too often.
     pub frequent: Vec<Frequent>,
 }
 
 impl Found {
-    /// It has as many starts as a plan keeps, and more may come before its end.
+    /// Whether it has as many starts as a plan keeps, so that more may come before the end of the span.
     pub(crate) fn is_cut(&self) -> bool
         ensures { result ≡ is_cut self.now }
     {
         self.plan.span.end < self.span.end
     }
 
-    // It has starts after its first moments, which are so many.
+    // Whether it has starts after its first `count` moments.
     fn is_more(&self, count: u32) -> bool
         ensures { result ≡ is_more count self.now }
     {
         count_within(self.plan.starts.as_slice(), count) < self.plan.starts.len()
     }
 
-    // More of its starts than those of so many moments are known, or as many as a plan keeps.
+    // Whether it has starts after its first `count` moments, or as many starts as a plan keeps.
     fn is_enough(&self, count: u32) -> bool
         ensures { result ≡ is_enough count self.now }
     {
         self.is_more(count) || self.is_cut()
     }
 
-    /// Its starts that a list has.
+    /// Those of its starts that stand in a list.
     pub(crate) fn listed_starts(&self, listing: Listing) -> &[JobStart]
         ensures { result.now ≡ starts_listed listing self.now }
     {
@@ -66,7 +66,7 @@ impl Found {
         }
     }
 
-    /// How a list of its starts ends, where the clock's window does so.
+    /// How a list of its starts ends. If the window of the clock ends early, `last` is its last second.
     pub(crate) fn ending(&self, listing: Listing, last: Option<i64>) -> Ending
         ensures { result ≡ ending_of listing last self.now }
     {
@@ -98,14 +98,14 @@ impl Found {
 pub enum Ending {
     /// More may come after what was asked for.
     More,
-    /// As many starts as a plan keeps were found.
+    /// As many starts as a plan keeps were found, and more may come.
     Cut,
-    /// The clock's window ends: none is left in it.
+    /// No start is left in the clock's window, or, if that doesn't end early, in the years that are searched.
     Whole,
 }
 
-/// What starts of jobs after a start, which isn't in it, and before an end, without those that start more often than so many times on some
-/// day of the clock. Where no number is given, no job is left out.
+/// The starts of jobs after `start` and before `end`; one at either of these seconds isn't among them. Jobs that start more than
+/// `most_a_day` times on some day of the clock are left out; if that is `None`, no job is.
 ///
 /// The only error is `OutOfMemory`, as that of `cronplan_jobs::plan_of`.
 pub fn found_before(
@@ -126,8 +126,9 @@ pub fn found_before(
     })
 }
 
-/// What starts of jobs after a start, on a clock whose window ends with a second or not before the years that are searched, up to the second
-/// up to which starts are listed, or else in seven days; without those that start more often than so many times a day.
+/// The starts of jobs that answers are about: those after `start` up to the second up to which starts are listed, or, if a number of
+/// moments is listed, in seven days. Jobs are left out as by `found_before`. If the window of the clock ends early, `last` is its last
+/// second, and no later start is found.
 ///
 /// The error is as that of `found_before`.
 pub fn answered_plan(
@@ -144,7 +145,7 @@ pub fn answered_plan(
     found_before(alloc, jobs, start, end, most_a_day)
 }
 
-// The end of what is looked at after a start where a plan is asked something.
+// The end of the span that answers are about.
 fn answered_until(start: i64, last: Option<i64>, listing: Listing) -> i64
     requires { is_table_second start ≡ true }
     ensures { result ≡ answered_until start last listing }
@@ -153,8 +154,9 @@ fn answered_until(start: i64, last: Option<i64>, listing: Listing) -> i64
     end_up_to(until, whole_end(last))
 }
 
-/// What starts of jobs after a start, on a clock whose window ends with a second or not before the years that are searched: all up to a
-/// second, or more than so many moments if there are more. No job is left out.
+/// The starts of jobs for a list: all those after `start` up to a second; or, if a number of moments is listed, those of more moments
+/// than that, if there are more. No job is left out. If the window of the clock ends early, `last` is its last second, and no later
+/// start is found.
 ///
 /// The error is as that of `found_before`.
 pub fn listed_plan(
@@ -175,7 +177,7 @@ pub fn listed_plan(
     }
 }
 
-// What starts of jobs after a start before an end, up to more than so many moments.
+// The starts of jobs after `start` and before an end, until there are more than `count` moments.
 fn first_plan(
     alloc: Global,
     jobs: &[Schedule],
@@ -195,7 +197,7 @@ fn first_plan(
     found_before(alloc, jobs, start, whole, None)
 }
 
-// The end of a span of so many seconds from a start on, which isn't later than that of the whole.
+// The end of a span of `length` seconds from a start on, or that of the whole span if it is earlier.
 fn end_from(start: i64, length: i64, whole: i64) -> i64
     ensures { int_lt whole result ≡ false }
 {
@@ -213,7 +215,7 @@ pub(crate) fn whole_end(last: Option<i64>) -> i64
     }
 }
 
-// The end of a span whose last second is this one, which isn't later than that of the whole.
+// The end of a span whose last second is `until`, or that of the whole span if it is earlier.
 fn end_up_to(until: i64, whole: i64) -> i64
     ensures { result ≡ end_up_to until whole }
 {

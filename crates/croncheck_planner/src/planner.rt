@@ -1,4 +1,4 @@
-//! The form of a plan: the jobs of all files, and after them what starts of them.
+//! The form of a plan: takes the jobs of all files, and after them writes their starts.
 ghost use Rattle.std.specs.Prelude.{◌≡◌, ◌++◌, ℕ, List, [], None, Some, IfOk, IfErr, OnOk, string_bytes, option_map, unwrap_or};
 ghost use Rattle.croner.specs.declared.job.Cron.{Cron as Made};
 ghost use Rattle.croner.specs.Views.{job_of as meaning_of_job};
@@ -43,12 +43,12 @@ use std::alloc::{AllocError, Global};
 use std::io;
 use std::io::{ErrorKind, Write};
 
-/// What the zones are called on whose clocks a plan is shown.
+/// The names of the zones on whose clocks a plan is shown.
 #[derive(Drop)]
 pub struct ClockNames {
-    /// The zone whose clock is shown.
+    /// The name of the zone whose clock is shown.
     pub zone: String,
-    /// The one that is shown besides; empty where there is none.
+    /// The name of the zone whose clock is shown besides; empty if there is none.
     pub other: String,
 }
 
@@ -63,17 +63,17 @@ pub struct Planned {
     pub title: String,
     /// The name of its user, as it is shown; empty where the file names none.
     pub user: String,
-    /// Its times as they are written, as they are shown.
+    /// Its times as they are written, in the way that bytes of a file are shown.
     pub times: String,
     /// What its times mean, in words.
     pub words: String,
-    /// Its command. Of a pattern it is the pattern.
+    /// Its command; for a pattern, the pattern.
     pub command: Vec<u8>,
-    // Its place, and the front of its title, and of its command where that is asked for.
+    // Its place, the front of its title, and the front of its command if that is asked for.
     pub(crate) label: String,
 }
 
-/// Takes the jobs of files, and writes the plan of all of them. What has no time and what is refused is told as in a
+/// Takes the jobs of files, and writes the plan of all of them. A line whose job has no time, and a line that is refused, is told as in a
 /// report.
 #[derive(Drop)]
 pub struct Planner {
@@ -86,7 +86,7 @@ pub struct Planner {
 }
 
 impl Planner {
-    /// It knows no job yet, but what the zones are called.
+    /// A planner that has no job yet, and knows the names of the zones.
     pub fn new(alloc: Global, asked: PlanAsked, names: ClockNames) -> Planner
         ensures jobs { (result.schedules.items ≡ []) × (result.jobs.items ≡ []) }
         ensures asked { result.asked ≡ asked }
@@ -169,7 +169,7 @@ impl Planner {
         Ok(())
     }
 
-    // Tells the line that was read last, which has no place in the plan. The parser makes this of it.
+    // Tells of the line that was read last, which has no place in the plan. `outcome` is what the parser makes of its times.
     fn pass<W: Write>(
         &self,
         terms: &Terms<'_, '_>,
@@ -199,7 +199,7 @@ impl Planner {
         write_report(terms, progress.place(), line, &report, output)
     }
 
-    // Plans the line that was read last, or tells it. The parser makes this of it.
+    // Plans the line that was read last, or tells of it. `outcome` is what the parser makes of its times.
     fn plan_line<W: Write>(
         &mut self,
         terms: &Terms<'_, '_>,
@@ -260,7 +260,7 @@ impl Planner {
         write_list(terms, whose, self.jobs.as_slice(), &found, output)
     }
 
-    /// What starts of its jobs in what the forms of a plan are about, without those that start too often.
+    /// The starts of its jobs in the span that the forms of a plan are about, without the jobs that start too often.
     ///
     /// The only error is `OutOfMemory`, as that of `answered_plan`.
     pub(crate) fn found_starts(&self, terms: &Terms<'_, '_>) -> Result<Found, CronError>
@@ -354,7 +354,7 @@ fn is_refused_by_user(settings: &Settings<'_>, entry: &Entry<'_>) -> bool
     }
 }
 
-// With one more line, which has a job.
+// The tally with one more line, which has a job.
 fn with_job(tally: Tally) -> Tally
     ensures { result ≡ with_job tally }
 {

@@ -23,7 +23,7 @@ use std::alloc::{AllocError, Global};
 use std::io;
 use std::io::{BufRead, ErrorKind, Write};
 
-/// The status of a call of which a file failed.
+/// The status of a call if one of its files failed.
 const FAILED: u8 = 3;
 
 /// What is noted of another of cron's files than a crontab.
@@ -41,7 +41,7 @@ pub trait Sources {
     ghost use Rattle.std.specs.declared.string.String.{String};
     ghost use Rattle.croncheck_files.specs.declared.fitness.Unfit.{Unfit};
 
-    /// What a file is read by.
+    /// The reader of a file.
     type Reader: BufRead + Drop;
 
     /// What a reader of the file of a name may give.
@@ -60,7 +60,7 @@ pub trait Sources {
     fn open(&self, name: &str) -> io::Result<Self::Reader>
         ensures { IfOk result (λ reader. holds self.now name.now (Self.Reader.remaining reader)) };
 
-    /// Why cron ignores the file of a name by what the file system says of it, if it does and if that is looked at.
+    /// Why cron ignores the file of a name by what the file system says of it. `None` if cron doesn't, or if that isn't looked at.
     fn unfit(&self, name: &str) -> Option<Unfit>
         ensures { says_unfit self.now name.now result };
 
@@ -77,11 +77,11 @@ pub trait Sources {
 /// failed, else 1 where a line is refused, where cron ignores a whole file, or where a line or the name of a file has a
 /// warning and the settings are strict, else 0.
 ///
-/// Of a folder the files are told, in the order of their names: what becomes of each [`Treatment`] says. A file that is no
-/// crontab is not read. A file fails that isn't opened or isn't read to its end, and a folder that isn't listed.
+/// Of a folder the files are told, in the order of their names; [`Treatment`] says what becomes of each. A file that is no crontab is not
+/// read. A file fails if it isn't opened or isn't read to its end, and a folder if it isn't listed.
 ///
-/// Of what fails the name and the reason are written to `notes`, and so is what isn't read, and at the end how many jobs
-/// were read, how many lines are refused and how many have warnings; an error of `notes` is passed over.
+/// The name of what fails is written to `notes` with the reason, and so is the name of what isn't read; at the end follows how many jobs
+/// were read, how many lines are refused and how many have warnings. An error of `notes` is passed over.
 ///
 /// The error is that of what is written to, or says that memory is lacking.
 pub fn tell_files<'s, 't, S: Sources, F: Form, W: Write, N: Write>(
@@ -112,7 +112,7 @@ fn either_failed(fails: bool, is_failed: bool) -> bool
     fails || is_failed
 }
 
-// Tells of a file of this sort, and answers whether it failed, which is noted then. The error is that of the writer.
+// Tells of a file of this sort, and answers whether it failed; if it did, that is noted. The error is that of the writer.
 fn fails<'s, 't, S: Sources, F: Form, W: Write, N: Write>(
     sources: &S,
     kinds: &TermsByKind<'s, 't>,

@@ -22,7 +22,7 @@ use std::alloc::Global;
 use std::io;
 use std::io::ErrorKind;
 
-/// What is asked of each line, and what all answers share.
+/// What is asked of each line of files, and what all answers share.
 #[derive(Clone, Copy)]
 pub struct Terms<'s, 't> {
     pub alloc: Global,
@@ -83,7 +83,7 @@ impl<'s, 't> TermsByKind<'s, 't> {
 
 /// A line of a file.
 pub struct Line<'l> {
-    /// Its bytes, without its line feed.
+    /// The bytes of the line, without its line feed.
     pub text: &'l [u8],
     pub entry: Entry<'l>,
     /// It has a line feed.
@@ -99,7 +99,7 @@ pub struct Progress {
     pub files: u64,
     /// How many of its lines were read.
     pub lines: u64,
-    /// The names of warnings that comments allow to the next line.
+    /// The names of the warnings that a comment allows for the next line.
     pub allowed: Vec<&'static str>,
 }
 
@@ -132,7 +132,8 @@ impl Progress {
         }
     }
 
-    /// Begins the next file, by its name as it is shown, and why cron ignores it by what the file system says of it, if it does.
+    /// Begins the next file. `name` is its name as it is shown, and `unfit` is why cron ignores it by what the file system says
+    /// of it, if it does.
     pub fn begin(&mut self, name: String, unfit: Option<Unfit>)
         ensures { stand_of self.new ≡ begin_of_file (string_bytes name) unfit (stand_of self.old) }
     {
@@ -142,7 +143,7 @@ impl Progress {
         self.allowed.clear();
     }
 
-    /// Begins the next file, which cron passes over for its name, by that name as it is shown.
+    /// Begins the next file, which cron passes over for its name. The name is given as it is shown.
     pub fn begin_passed_over(&mut self, name: String)
         ensures { stand_of self.new ≡ begin_passed_over (string_bytes name) (stand_of self.old) }
     {
@@ -171,8 +172,9 @@ impl Progress {
         }
     }
 
-    /// The report of the next line of the file, without what the words of the call and the comment above it allow. It is
-    /// counted with its warnings. A job is told where the first one stands that is the same, if the settings compare jobs.
+    /// The report of the next line of the file, without the warnings that the words of the call and the comment above it allow.
+    /// The line is counted, and whether it has a warning. If the settings compare jobs, the report of a job says where the
+    /// first job stands that is the same.
     ///
     /// The error says that memory is lacking.
     pub fn report<'l, 't>(

@@ -17,7 +17,7 @@ use std::collections::BTreeMap;
 
 /// The jobs that were seen so far. It takes memory in proportion to them.
 pub struct Seen {
-    // By the bytes of user and command, and the times.
+    // The places by the bytes of user and command, and by the times.
     jobs: BTreeMap<(Vec<u8>, Cron), Same>,
 }
 
@@ -38,10 +38,12 @@ impl Seen {
         }
     }
 
-    /// The place of the first job that is the same as the job of an entry: its times have the same meaning, and its user and its command
-    /// have the same bytes. `outcome` is what the parser makes of the entry. Where there is no such job, this one is kept, with its
-    /// place. Nothing is found and nothing is kept where the settings compare no jobs, or the entry has no job or one without times. An
-    /// error leaves what was kept.
+    /// The place of the first job that is the same as the one of an entry: its times have the same meaning, and its user and its command
+    /// have the same bytes. `outcome` is what the parser makes of the entry's times. If there is no such job, this one is kept with its
+    /// place.
+    ///
+    /// Nothing is found and nothing is kept if the settings don't compare jobs, or if the entry has no job, or one without times. The only
+    /// error is lack of memory; it leaves what was kept as it was.
     pub fn first_same(
         &mut self,
         alloc: Global,
@@ -65,7 +67,7 @@ impl Seen {
         }
     }
 
-    // The same of a job with these words.
+    // The place of the first job with this user and command (`words`) and these times; else this one is kept.
     fn first_same_job(
         &mut self,
         alloc: Global,
@@ -114,7 +116,7 @@ impl Seen {
     }
 }
 
-// The job of an entry as it is compared, of which the parser makes this.
+// The job of an entry as it is compared. `outcome` is what the parser makes of the entry's times.
 fn job_compared(entry: &Entry<'_>, outcome: &Outcome) -> Result<Option<Cron>, AllocError>
     ensures { IfOk result (λ found. option_map meaning_of_job found ≡ option_map (job_compared_in (entry_seen entry.now)) (meaning_found outcome.now)) }
 {
@@ -141,7 +143,8 @@ fn job_compared_in(entry: &Entry<'_>, job: &Cron) -> Result<Cron, AllocError>
     }
 }
 
-// Where a day field is `*`, a day has to match the other, whether both must or either: so `@hourly` and `0 * * * *` are one.
+// If a day field is `*`, the other one decides alone, whether a day has to match both or either. So that flag isn't compared then:
+// `@hourly` and `0 * * * *` are the same.
 fn times_compared(job: &Cron) -> Result<Cron, AllocError>
     ensures { IfOk result (λ found. meaning_of_job found ≡ times_compared (meaning_of_job job.now)) }
 {
@@ -160,7 +163,7 @@ fn same_at(alloc: Global, file: &str, line: u64) -> Result<Same, AllocError>
     Ok(Same { file, line })
 }
 
-// The user and the command of an entry, with a byte 0 between, which is in none of them. A pattern has neither.
+// The user and the command of an entry, with a byte 0 between them, which neither of them has. A pattern has neither.
 fn owner_of(alloc: Global, entry: &Entry<'_>) -> Result<Vec<u8>, AllocError>
     ensures { IfOk result (λ words. words.items ≡ owner_of (entry_seen entry.now)) }
 {

@@ -17,7 +17,7 @@ use std::io::{BufRead, Write};
 
 /// Takes the lines of files, one file after the other, and tells of them in a form.
 pub struct Sink<'s, 't, F, W> {
-    // Those of the file that is read.
+    // The terms of the file that is read.
     terms: Terms<'s, 't>,
     pub(crate) progress: Progress,
     form: F,
@@ -37,7 +37,7 @@ impl<F: Drop, W: Drop> Drop for Sink<'_, '_, F, W> {
 }
 
 impl<'s, 't, F: Form, W: Write> Sink<'s, 't, F, W> {
-    /// One that writes to `out`, and has taken no line yet. The terms are those of the first file.
+    /// A sink that writes to `out`, and has taken no line yet. The terms are those of the first file.
     pub fn new(terms: Terms<'s, 't>, form: F, out: W) -> Sink<'s, 't, F, W>
         ensures terms { result.terms ≡ terms.entry }
         ensures begin { StandsAtBegin (stand_of result.progress) }
@@ -61,7 +61,7 @@ impl<'s, 't, F: Form, W: Write> Sink<'s, 't, F, W> {
         &self.form
     }
 
-    /// What it writes to.
+    /// The writer that it writes to.
     pub fn out(&self) -> &W
         ensures { result.now ≡ self.now.output.out }
     {
@@ -75,8 +75,8 @@ impl<'s, 't, F: Form, W: Write> Sink<'s, 't, F, W> {
         self.output.is_refused()
     }
 
-    /// Takes the lines of a file after those of the files before, by these terms, and writes what stands at its end. Cron ignores
-    /// the file for `unfit`, if there is that.
+    /// Takes the lines of the next file, by these terms, and writes what stands at the file's end. `unfit` is why cron ignores the file by
+    /// what the file system says of it, if it does.
     ///
     /// The error is that of the reader or of the writer, or says that memory is lacking.
     pub fn read<R: BufRead>(
@@ -115,7 +115,7 @@ impl<'s, 't, F: Form, W: Write> Sink<'s, 't, F, W> {
         Ok(())
     }
 
-    /// Writes what stands after all files by these terms, and passes on what was written.
+    /// Writes what stands after all files, by these terms, and flushes the writer.
     ///
     /// The error is that of the writer, or says that memory is lacking.
     pub fn end(&mut self, terms: Terms<'s, 't>) -> io::Result<()>

@@ -18,14 +18,14 @@ pub struct Tally {
     pub jobs: u64,
     /// The lines that are refused.
     pub refused: u64,
-    /// The lines that have a warning, and the files whose name has one. A plan counts none of lines.
+    /// The lines that have a warning, and the files whose name has one. A plan counts no lines here.
     pub warned: u64,
     /// The files that cron ignores as a whole.
     pub ignored: u64,
 }
 
 impl Tally {
-    /// Nothing is counted yet.
+    /// A tally in which nothing is counted yet.
     pub fn new() -> Tally
         ensures { result ≡ none_counted }
     {
@@ -38,7 +38,8 @@ impl Tally {
         }
     }
 
-    /// Counts one more line, and whether it has a warning, or is the first that a crontab has too many. No count passes 2^64 - 1.
+    /// Counts one more line; also among those with a warning, if its report has one or it is the first line too many of a crontab. No
+    /// count passes 2^64 - 1.
     pub fn add(&mut self, is_too_many: bool, report: &Report<'_, '_>)
         ensures { self.new ≡ added is_too_many self.old report.now }
     {
@@ -59,8 +60,8 @@ impl Tally {
         }
     }
 
-    /// Counts one more file that cron ignores as a whole, if it does, and its name as a warning, if it passes over that. No
-    /// count passes 2^64 - 1.
+    /// Counts a file whose end was told: among the ignored ones if cron ignores it as a whole, and as a warning if cron passes over
+    /// it for its name. No count passes 2^64 - 1.
     pub fn end_file(&mut self, is_ignored: bool, is_passed_over: bool)
         ensures { self.new ≡ with_file is_ignored is_passed_over self.old }
     {
@@ -69,7 +70,7 @@ impl Tally {
     }
 
     /// The status of a call, if all could be read and written: 1 where a line is refused, where cron ignores a whole file, or where a
-    /// line has a warning and the call is strict, else 0.
+    /// line or the name of a file has a warning and the call is strict, else 0.
     pub fn status(&self, is_strict: bool) -> u8
         ensures { result ≡ status_of is_strict self.now }
     {
@@ -88,7 +89,7 @@ fn is_line_warned(is_too_many: bool, report: &Report<'_, '_>) -> bool
     report.has_warnings() || is_too_many
 }
 
-/// Whether the line after so many of a file is the first for which cron ignores it as too long.
+/// Whether the line after `lines` lines of a file is the first one for which cron ignores the file as too long.
 pub fn is_too_many(dialect: Dialect, lines: u64, entry: &Entry<'_>, file: &FileSeen) -> bool
     ensures { result ≡ is_too_many dialect lines (entry_seen entry.now) (file_seen file.now) }
 {

@@ -18,7 +18,7 @@ use std::alloc::{AllocError, Global};
 
 /// The names of the warnings that may be allowed, in the order of the table in docs/CRONTAB.md.
 ///
-/// That a crontab's last line has no line feed, or that it has too many lines, is none of them: cron ignores the file.
+/// That a crontab's last line has no line feed, or that it has too many lines, can't be allowed: cron ignores such a file.
 pub const ALLOWABLE: [&str; 25] = [
     "either-day",
     "uneven-step",
@@ -47,10 +47,10 @@ pub const ALLOWABLE: [&str; 25] = [
     "same-job",
 ];
 
-/// The name of the warning of an allowed name that doesn't stand.
+/// The name of the warning that a comment allows a warning which isn't there.
 pub const NOT_NEEDED: &str = "not-needed";
 
-/// The name of the warning of an allowed name that no warning has.
+/// The name of the warning that a comment allows a name which no warning has.
 pub const UNKNOWN_NAME: &str = "unknown-name";
 
 // Whether a name is among these.
@@ -79,10 +79,11 @@ fn is_allowed(settings: &Settings<'_>, above: &[&str], name: &str) -> bool
     is_listed(settings.allowed, name.as_bytes()) || is_listed(above, name.as_bytes())
 }
 
-/// Takes out of the report of a line what the words of the call and the comment above it allow. Where the settings are strict
-/// a job's report has the names of the comment that don't stand there then.
+/// Takes out of the report of a line the warnings that the words of the call and the comment above the line allow. If the
+/// settings are strict, a job's report gets the names that the comment allows in vain: no such warning is there, nor would
+/// one be in another call or at another time.
 ///
-/// The only error is want of memory; what is left of the report then isn't said.
+/// The only error is lack of memory; what is left in the report is then unspecified.
 pub fn take_away(
     alloc: Global,
     settings: &Settings<'_>,
@@ -190,7 +191,7 @@ fn is_met_allowed(settings: &Settings<'_>, above: &[&str], met: Met) -> bool
 
 // ---- what is allowed in vain
 
-// The names that the comment above a job allows and that don't stand there, where the settings are strict.
+// The names that the comment above a job allows in vain, if the settings are strict.
 fn names_not_needed(
     alloc: Global,
     settings: &Settings<'_>,
@@ -206,7 +207,7 @@ fn names_not_needed(
     }
 }
 
-// The same, where they are strict.
+// The names that the comment above a job allows in vain.
 fn strict_names_in_vain(
     alloc: Global,
     settings: &Settings<'_>,

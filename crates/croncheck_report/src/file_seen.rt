@@ -29,8 +29,8 @@ pub struct FileSeen {
 }
 
 impl FileSeen {
-    /// A file of which no line was read, by its name as it is shown, and why cron ignores it by what the file system says of it,
-    /// if it does.
+    /// A file of which no line was read yet: its name as it is shown, and why cron ignores it by what the file system says of it, if it
+    /// does.
     pub fn new(name: String, unfit: Option<Unfit>) -> FileSeen
         ensures { file_seen result ≡ unread_of (string_bytes name) unfit }
     {
@@ -45,7 +45,7 @@ impl FileSeen {
         }
     }
 
-    /// A file that cron passes over for its name, by that name as it is shown.
+    /// A file that cron passes over for its name; the name is given as it is shown.
     pub fn of_passed_over(name: String) -> FileSeen
         ensures { file_seen result ≡ of_passed_over (string_bytes name) }
     {
@@ -102,7 +102,7 @@ impl FileSeen {
         self.is_open
     }
 
-    /// Takes up one more line, the one of this number, counted from 1, and whether a line feed ends it.
+    /// Takes up one more line: its number, counted from 1, its entry, and whether a line feed ends it.
     pub fn add_line(&mut self, number: u64, entry: &Entry<'_>, is_fed: bool)
         ensures { file_seen self.new ≡ with_line number (entry_seen entry.now) is_fed (file_seen self.old) }
     {
@@ -120,8 +120,9 @@ impl FileSeen {
         }
     }
 
-    /// What cron makes of the file of so many lines as a whole: that it passes over it for its name, or a line for each
-    /// reason for which it ignores it. Nothing of a file of patterns, which cron doesn't read.
+    /// What cron makes of the file of `lines` lines as a whole, as lines of text: that cron passes over it for its name, or a line for
+    /// each reason for which cron ignores it. Empty if cron does neither, and for a file of patterns, which cron doesn't read. The only
+    /// error is lack of memory.
     pub fn ending(&self, alloc: Global, dialect: Dialect, lines: u64) -> Result<String, AllocError>
         ensures { IfOk result (λ text. string_bytes text ≡ ending_of dialect lines (file_seen self.now)) }
     {
@@ -142,14 +143,14 @@ impl FileSeen {
         }
     }
 
-    /// Whether cron passes over it for its name.
+    /// Whether cron passes over the file for its name.
     pub fn is_passed_over(&self) -> bool
         ensures { result ≡ (file_seen self.now).is_passed_over }
     {
         self.is_passed_over
     }
 
-    /// Whether cron ignores the file of so many lines as a whole. One of patterns it doesn't read.
+    /// Whether cron ignores the file of `lines` lines as a whole. Never so for a file of patterns, which cron doesn't read.
     pub fn is_ignored(&self, dialect: Dialect, lines: u64) -> bool
         ensures { result ≡ is_ignored dialect lines (file_seen self.now) }
     {
@@ -164,7 +165,7 @@ impl FileSeen {
         }
     }
 
-    /// Whether cron ignores the file of so many lines as too long.
+    /// Whether cron ignores the file of `lines` lines because it is too long.
     pub fn has_many_lines(&self, dialect: Dialect, lines: u64) -> bool
         ensures { result ≡ has_many_lines dialect lines (file_seen self.now) }
     {
@@ -195,7 +196,7 @@ impl FileSeen {
     }
 }
 
-/// What is said of a file that cron ignores as too long.
+/// What is said of a file that cron ignores because it is too long; empty for a file of patterns.
 pub fn many_lines_text(dialect: Dialect) -> &'static str
     ensures { result.now ≡ many_lines_text dialect }
 {
@@ -206,7 +207,7 @@ pub fn many_lines_text(dialect: Dialect) -> &'static str
     }
 }
 
-// The same as a line, with the name.
+// The same as a line, with the name of the warning.
 fn many_lines_line(dialect: Dialect) -> &'static str
     ensures { result.now ≡ many_lines_text dialect ++ codes " (many-lines)\n" }
 {
@@ -264,7 +265,8 @@ pub fn is_refused(report: &Report<'_, '_>) -> bool
     }
 }
 
-/// Whether the line of this number, counted from 1, is a job or a setting after the last one that cron takes in a crontab of the system.
+/// Whether the line with this number, counted from 1, is a job or a setting after the last line at which cron takes one in a crontab of
+/// the system.
 pub fn is_late(number: u64, entry: &Entry<'_>) -> bool
     ensures { result ≡ is_late number (entry_seen entry.now) }
 {

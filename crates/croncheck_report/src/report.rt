@@ -1,4 +1,4 @@
-//! What a line is told: values, and no text but the description.
+//! What is told of a line: values, and no text but the description.
 ghost use Rattle.std.specs.Prelude.{◌≡◌, ◌+◌, ◌++◌, Ok, ℕ, List, length, map, min, IfOk, OnOk, IfErr, None, Some, option_map, Result};
 ghost use Rattle.croner.specs.parser.Grammar.{outcome as outcome_of_text};
 ghost use Rattle.croner.specs.Views.{job_of as meaning_of_job};
@@ -37,9 +37,9 @@ use crontab::setting::is_not_expanded;
 use crontab_runs::CrontabJob;
 use std::alloc::{AllocError, Global};
 
-/// What a line is told.
+/// What is told of a line.
 pub enum Report<'l, 't> {
-    /// Nothing: it is blank or a comment.
+    /// Nothing: the line is blank or a comment.
     Silent,
     /// It is a comment that allows this name, which no warning has.
     Misnamed(&'l [u8]),
@@ -84,14 +84,14 @@ impl Drop for Report<'_, '_> {
 pub struct SettingReport {
     /// The variable is `CRON_TZ` or `TZ`.
     pub is_zone: bool,
-    /// The value has what cron takes as it stands, and a shell doesn't.
+    /// The value has something that a shell would expand, and that cron takes as it stands.
     pub is_not_expanded: bool,
     /// The line has a byte that hides others.
     pub is_hiding: bool,
 }
 
 impl SettingReport {
-    /// Any of these is found.
+    /// Whether any of these is found.
     pub fn is_found(self) -> bool
         ensures { result ≡ is_setting_found self }
     {
@@ -99,25 +99,26 @@ impl SettingReport {
     }
 }
 
-/// What a job is told.
+/// What is told of a job or a pattern.
 #[derive(Drop)]
 pub struct JobReport<'l, 't> {
     /// Its times as they are written.
     pub schedule: &'l [u8],
     /// The name of its user, where the file names one.
     pub user: Option<&'l [u8]>,
-    /// Its command, where the line is no pattern alone.
+    /// Its command. `None` for a pattern alone.
     pub command: Option<&'l [u8]>,
-    /// Where the first job stands that is the same, if there is one, and jobs are compared.
+    /// Where the first job stands that is the same, if jobs are compared and there is one.
     pub same: Option<Same>,
     pub times: Told<'t>,
     /// In the order of the table in docs/CRONTAB.md.
     pub warnings: Vec<Warning>,
     /// What changes of the clock do to it.
     pub meetings: Meetings,
-    /// Of a job that runs on either day: the days of the month of its first listed run by each day field.
+    /// For a job that runs on either day: the days that each day field names in the month of its first listed run.
     pub dates: Option<Dates>,
-    /// The names of warnings that the comment above it allows, and that don't stand here: none, unless the call is strict.
+    /// The names of warnings that the comment above it allows in vain: no such warning is here, nor would one be in another call or at
+    /// another time. Empty unless the call is strict.
     pub unneeded: Vec<&'static str>,
 }
 
@@ -141,9 +142,9 @@ impl Drop for Same {
 pub enum Why {
     /// Cron refuses it, or this checker does.
     Cron(Fault),
-    /// The same, and the line before seems to go on in it: its command ends in a backslash.
+    /// As `Cron`, and the line before seems to go on in this one: the command of that line ends in a backslash.
     AfterOpenLine(Fault),
-    /// The crate's parser refuses the pattern; the program of the settings' preset takes this of it.
+    /// The crate's parser refuses the pattern. The program of the settings' preset accepts these things in it.
     Pattern(PatternFault, Vec<Reading>),
     /// The crate's parser refuses the text that the line's times were made into.
     Crate(CronError),
@@ -154,7 +155,7 @@ pub enum Why {
 }
 
 impl Report<'_, '_> {
-    /// The line has a warning. A refused line has none.
+    /// Whether the line has a warning. A refused line has none.
     pub fn has_warnings(&self) -> bool
         ensures { result ≡ has_warnings self.now }
     {
@@ -166,9 +167,9 @@ impl Report<'_, '_> {
         }
     }
 
-    /// The notes of a line of this report, which is given without its line feed.
+    /// The notes of the line of this report. The line is given without its line feed.
     ///
-    /// The only error is want of memory.
+    /// The only error is lack of memory.
     pub fn notes(&self, alloc: Global, line: &[u8]) -> Result<Vec<Note>, AllocError>
         ensures { IfOk result (λ found. found.items ≡ notes_of_report line.now self.now) }
     {
@@ -181,7 +182,7 @@ impl Report<'_, '_> {
 }
 
 impl JobReport<'_, '_> {
-    /// The job or the pattern has a warning.
+    /// Whether the job or the pattern has a warning.
     pub fn has_warnings(&self) -> bool
         ensures { result ≡ has_job_warnings self.now }
     {
@@ -191,7 +192,7 @@ impl JobReport<'_, '_> {
             || !self.unneeded.is_empty()
     }
 
-    /// The notes of its line: a pattern, which has no command, has none. The only error is want of memory.
+    /// The notes of the job's line, which is given without its line feed. A pattern has none. The only error is lack of memory.
     pub fn notes(&self, alloc: Global, line: &[u8]) -> Result<Vec<Note>, AllocError>
         ensures { IfOk result (λ found. found.items ≡ notes_of_job (option_map (λ c. c.now) self.now.command) line.now) }
     {
@@ -203,7 +204,7 @@ impl JobReport<'_, '_> {
 }
 
 impl Why {
-    /// The notes of a line that is refused so: where cron refuses it. The only error is want of memory.
+    /// The notes of a line that is refused for this reason. It has none unless cron refuses it. The only error is lack of memory.
     pub fn notes(&self, alloc: Global, line: &[u8]) -> Result<Vec<Note>, AllocError>
         ensures { IfOk result (λ found. found.items ≡ notes_of_refusal self.now line.now) }
     {
@@ -215,7 +216,7 @@ impl Why {
         }
     }
 
-    /// What the program of a preset takes of it.
+    /// What the program of a preset accepts in a pattern that the crate's parser refuses; empty for any other reason.
     pub fn readings_taken(&self) -> &[Reading]
         ensures { result.now ≡ taken_of self.now }
     {
@@ -227,13 +228,13 @@ impl Why {
     }
 }
 
-/// The report of the entry of a line, which has its line feed or hasn't, and is given without it. The outcome is what the
-/// parser makes of the line's times, and an earlier job was looked for that is the same.
+/// The report of a line, by its entry. The line is given without its line feed; `is_fed` says whether it has one. `outcome` is what the
+/// parser makes of the line's times, and `same` is the place of an earlier job that is the same, if one was found.
 ///
-/// A job is refused exactly where its user is none of those that are known, at the user's name, or where the crate's parser
-/// refuses the text of its times; and a pattern where the parser refuses it or it is no UTF-8. The place of such a refusal
-/// lies after the blanks in front of the line. The place that was found of an earlier job stands in the report, if that is
-/// of a job or a pattern that is read. The only error is `OutOfMemory`.
+/// A job is refused exactly if its user is none of those that are known, and then the fault lies at the user's name; or if the crate's
+/// parser refuses the text of its times. A pattern is refused if the parser refuses it, or if it isn't UTF-8. The place of such a refusal
+/// lies after the blanks in front of the line. `same` stands in the report of a job or a pattern that is read. The only error is
+/// `OutOfMemory`.
 pub fn report_of_line<'l, 't>(
     alloc: Global,
     settings: &Settings<'t>,
@@ -266,7 +267,8 @@ pub fn report_of_line<'l, 't>(
     }
 }
 
-/// Puts into the report of a line that the line before seems to go on in it, if it does.
+/// If the line before seems to go on in this one (`is_open`) and cron refuses this one, puts that into the report: `Why::Cron` becomes
+/// `Why::AfterOpenLine`.
 pub fn put_after_open_line(is_open: bool, report: &mut Report<'_, '_>)
     ensures { report.new ≡ report_after_line is_open report.old }
 {
@@ -293,7 +295,7 @@ fn put_why_after_open_line(why: &mut Why)
     }
 }
 
-// The report of a comment: the first name that it allows and that no warning has, if there is one.
+// The report of a comment: the first name in its list that no warning has, if there is one.
 fn report_of_comment<'l, 't>(line: &'l [u8]) -> Report<'l, 't>
     ensures report { IsReportOfComment (unknown_name_in line.now) result }
     ensures passed { HasNoPlace result }
@@ -356,7 +358,7 @@ fn refused_user_report<'l, 't>(line: &[u8], job: &Job<'_>) -> Report<'l, 't>
     }
 }
 
-// The report of the job of a line, of whose times the parser makes this.
+// The report of the job of a line; `outcome` is what the parser makes of its times.
 fn report_of_job<'l, 't>(
     alloc: Global,
     settings: &Settings<'t>,
@@ -382,7 +384,7 @@ fn report_of_job<'l, 't>(
             job.schedule,
             Why::Crate(refusal),
         )),
-        // A pattern alone is refused so.
+        // Only a pattern has these outcomes.
         Outcome::PatternRefused(_) | Outcome::NotUtf8 => Ok(refused_report(
             line,
             job.schedule,
@@ -391,7 +393,7 @@ fn report_of_job<'l, 't>(
     }
 }
 
-// The report of a job of whose times the parser makes this one, starred as they are written.
+// The report of a job with these times, as the parser reads them; whether it is starred depends on how they are written.
 fn report_of_parsed_job<'l, 't>(
     alloc: Global,
     settings: &Settings<'t>,
@@ -455,7 +457,7 @@ fn report_of_no_text<'l, 't>(
     }))
 }
 
-// Times of no text are told so.
+// What is told of times that have no text for the parser.
 fn times_of_no_text<'t>(times: &Times) -> Told<'t>
     ensures { (s : Made) → IsOutcomeOfTimes (times_seen times.now) Outcome.NoText → (schedule : List ℕ) → TellsTiming s schedule (times_seen times.now) result }
 {
@@ -465,7 +467,7 @@ fn times_of_no_text<'t>(times: &Times) -> Told<'t>
     }
 }
 
-// What a job is told of changes of the clock, whose times were told so.
+// What is told of a job at changes of the clock, given what is told of its times.
 fn meetings_of(settings: &Settings<'_>, job: &Cron, runner: Runner, told: &Told<'_>) -> Meetings
     ensures { TellsChanges settings.now runner (Some (meaning_of_job job.now)) told.now result }
 {
@@ -475,7 +477,8 @@ fn meetings_of(settings: &Settings<'_>, job: &Cron, runner: Runner, told: &Told<
     settings.changes.meetings_of(job, runner)
 }
 
-// What a job that was told so is told of its dates: where it runs on either day, those of the month of its first listed run.
+// The dates that are told of a job, given what is told of its times: if it runs on either day, those of the month of its first listed
+// run.
 fn dates_of(job: &Cron, told: &Told<'_>) -> Result<Option<Dates>, CronError>
     ensures dates { IfOk result (TellsDates (meaning_of_job job.now) told.now) }
     ensures err { IfErr result (λ e. e ≡ CronError.OutOfMemory) }
@@ -572,7 +575,7 @@ fn refused_pattern_report<'l, 't>(
     }
 }
 
-// The report of the pattern of a line, of which the parser makes this.
+// The report of the pattern of a line; `outcome` is what the parser makes of it.
 fn report_of_pattern<'l, 't>(
     alloc: Global,
     settings: &Settings<'t>,
@@ -595,7 +598,7 @@ fn report_of_pattern<'l, 't>(
             let taken = readings_of(alloc, settings.preset, true, text)?;
             Ok(refused_pattern_report(line, text, fault, taken))
         }
-        // No pattern that is UTF-8 is refused so.
+        // A pattern that is UTF-8 has none of these outcomes.
         Outcome::NoText | Outcome::TimesRefused(_) | Outcome::NotUtf8 => Ok(refused_report(
             line,
             bytes,
@@ -657,7 +660,7 @@ fn warnings_of_pattern(
     Ok(warnings)
 }
 
-// Puts after some warnings what another program makes otherwise.
+// Appends to some warnings what another program reads differently.
 fn push_readings(warnings: &mut Vec<Warning>, readings: &[Reading]) -> Result<(), AllocError>
     ensures { OnOk result (warnings.new.items ≡ warnings.old.items ++ map Warning.Preset readings.now) }
 {

@@ -1,4 +1,4 @@
-//! What reports are made by.
+//! The settings by which reports are made.
 ghost use Rattle.std.specs.Prelude.{◌≡◌};
 ghost use Rattle.croncheck_report.specs.Settings.{stop_of, window_end, asked_of, asked_until, in_dialect, of_kind};
 
@@ -20,7 +20,7 @@ pub enum Tongue {
     Swedish,
 }
 
-/// What reports are made by.
+/// The settings by which reports are made.
 #[derive(Clone, Copy)]
 pub struct Settings<'t> {
     pub dialect: Dialect,
@@ -35,11 +35,11 @@ pub struct Settings<'t> {
     pub listing: Listing,
     /// The start is the second at which the call is made: after each run stands how far off it is.
     pub is_from_now: bool,
-    /// The runs up to the start that are told too, if any are.
+    /// The question for the runs up to the start, if these are told too.
     pub previous: Option<&'t Previous<'t>>,
     /// How often a job starts is told too.
     pub tells_often: bool,
-    /// The status is 1 where a line has a warning, too.
+    /// The status is 1 also where a line or the name of a file has a warning.
     pub is_strict: bool,
     /// Each job is compared with those before it, for `same-job`.
     pub compares_jobs: bool,
@@ -47,7 +47,7 @@ pub struct Settings<'t> {
     pub look: Look,
     /// The names of warnings that the words of the call allow.
     pub allowed: &'t [&'t str],
-    /// The users that are known, if any are: a job of another one is refused.
+    /// The users that are known, if any are: a job of another user is refused.
     pub users: Option<Users<'t>>,
 }
 
@@ -62,8 +62,8 @@ impl<'t> Settings<'t> {
         }
     }
 
-    /// The second up to which it is counted how often a job starts, if that is told: the one up to which runs are listed, or that with which
-    /// seven days after the start end.
+    /// The last second of the span in which the starts of a job are counted, if that is told: the one up to which runs are listed, or, if a
+    /// number of runs is listed, the one seven days after the start.
     pub fn asked_until(&self) -> Option<i64>
         ensures { result ≡ asked_until self.now }
     {
@@ -74,14 +74,14 @@ impl<'t> Settings<'t> {
         }
     }
 
-    /// Where the window of the clock ends before year 5000 does.
+    /// Where and why the window of the clock ends early, if it ends before year 5000 does.
     pub fn stop(&self) -> Option<Stop>
         ensures { result ≡ stop_of self.now }
     {
         self.changes.clock.stop()
     }
 
-    /// The last second of that window, where it ends before year 5000 does.
+    /// The last second of that window, if it ends before year 5000 does.
     pub fn last(&self) -> Option<i64>
         ensures { result ≡ window_end self.now }
     {
@@ -118,7 +118,7 @@ impl<'t> SettingsByKind<'t> {
         }
     }
 
-    /// Those of the files of a kind.
+    /// The settings for the files of a kind.
     pub fn of(&self, dialect: Dialect) -> &Settings<'t>
         ensures { result.now ≡ of_kind self.now dialect }
     {

@@ -15,22 +15,22 @@ use jiff::tz::TimeZone;
 pub struct Shared<'z> {
     /// The zone whose clock is shown.
     pub zone: TimeZone<'z>,
-    /// Where the clock's window ends before year 5000 does.
+    /// Where and why the clock's window ends early, if it ends before year 5000 does.
     pub stop: Option<Stop>,
     /// How many runs are listed, or up to when.
     pub listing: Listing,
     /// The language of weekdays.
     pub language: Tongue,
-    /// The second from which on it is said how far off a run is, if that is said.
+    /// The second from which the distance of a run is counted, if it is said how far off a run is.
     pub off_from: Option<i64>,
-    /// The second from which on the clock of the runs before the start is followed, if these are told.
+    /// The second from which the clock of the runs before the start is followed, if these are told.
     pub followed_from: Option<i64>,
     /// Another zone, whose clock is shown too.
     pub other_zone: Option<TimeZone<'z>>,
 }
 
 impl<'z> Shared<'z> {
-    /// What the reports by some settings share, whose clock is that of this zone.
+    /// What the reports by these settings share. Their clock is that of `zone`.
     pub fn of(zone: TimeZone<'z>, settings: &Settings<'_>) -> Shared<'z>
         ensures zone { result.zone ≡ zone.entry }
         ensures stop { result.stop ≡ stop_of settings.now }
@@ -62,8 +62,8 @@ impl<'z> Shared<'z> {
     }
 }
 
-/// How many seconds the zone's clock is ahead of UTC at a run; 0 at a second that the zone doesn't have, and it has those of the years -9998
-/// to 9998 at least.
+/// How many seconds the zone's clock is ahead of UTC at a run, or behind it if the number is negative. It is 0 at a second that the zone
+/// doesn't have; the zone has at least those of the years -9998 to 9998.
 pub fn ahead_of(shared: &Shared<'_>, run: &TableTime<'_>) -> i32
     ensures { result ≡ offset_of (plain_zone shared.now.zone) run.now.second }
 {

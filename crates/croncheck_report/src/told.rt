@@ -26,18 +26,18 @@ const LAST_YEAR: u32 = 5_000;
 
 /// When a job runs.
 pub enum Told<'t> {
-    /// As the machine starts.
+    /// When the machine starts.
     Reboot,
-    /// At no time, since a field names nothing.
+    /// Never, since a field names nothing.
     Nothing,
     Runs {
-        /// What its times mean, in words, as a line without a full stop: the text of its summary.
+        /// What its times mean, in words, as one line without a full stop: the text of its summary.
         description: String,
-        /// Those of a pattern, or what cron starts of a crontab's job.
+        /// The runs of a pattern, or what cron starts of a crontab's job.
         runs: Runs<'t>,
-        /// The same up to the start, the latest first, where they are asked for.
+        /// The runs up to the start, the latest first, if they are asked for.
         previous: Option<Runs<'t>>,
-        /// How often it starts, where that is asked for.
+        /// How often it starts, if that is asked for.
         often: Option<Often>,
         /// No year that it names is left at the start.
         is_past: bool,
@@ -62,7 +62,8 @@ impl Drop for Told<'_> {
 }
 
 impl Told<'_> {
-    /// The job never runs: a field names nothing, or no run is left before year 5000. One that runs as the machine starts does run.
+    /// Whether the job never runs: a field names nothing, or no run is left before year 5000. A job that runs when the machine
+    /// starts does run.
     pub fn is_never(&self) -> bool
         ensures { result ≡ is_never self.now }
     {

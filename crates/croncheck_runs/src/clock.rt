@@ -34,25 +34,25 @@ pub const LAST_SECOND: i64 = 95_649_206_399;
 
 const NANOS_PER_SECOND: i128 = 1_000_000_000;
 
-/// Searches are made on a clock that is so many seconds ahead of UTC at most, or behind it: a day.
+/// The most seconds that a clock on which searches are made is ahead of UTC, or behind it: a day.
 const MOST_AHEAD: i32 = SECONDS_PER_DAY as i32;
 
-/// They go over a change by so many seconds forward at most.
+/// The most seconds by which a change that searches go over puts the clock forward.
 const SECONDS_FORWARD: i64 = GAP_LIMIT_SECONDS as i64;
 
-/// And by so many back.
+/// The most seconds by which a change that searches go over puts the clock back.
 const SECONDS_BACK: i64 = 7_200;
 
-/// Two changes have to lie more than so many seconds apart.
+/// Two changes have to lie more than this many seconds apart for searches to go over them.
 const SECONDS_APART: i64 = 172_800;
 
-/// They go over so many skipped seconds in all, at most.
+/// The most seconds that a clock may skip in all for searches to go over its changes.
 const MOST_SKIPPED: u64 = 20_000_000;
 
-/// The clock of a zone from three days before a start to the end of 5001-01-01 in UTC, after which it has no run; or to the second before
-/// its stop.
+/// The clock of a zone in a window: from three days before a start to the end of 5001-01-01 in UTC, after which no run comes, or to the
+/// second before the stop, if there is one.
 ///
-/// In this window it shows what the zone shows. The start lies well in it, so that a listing from there on is the zone's own.
+/// In this window it shows what the zone shows. The start lies far enough inside that a listing from there on is the zone's own.
 pub struct Clock {
     table: ClockTable,
     stop: Option<Stop>,
@@ -68,13 +68,13 @@ impl Drop for Clock {
 /// Why a zone has no clock from a start on.
 #[derive(Clone, Copy, Drop)]
 pub enum NoClock {
-    /// The window of the start ends before it, or at it.
+    /// The window of the start stops at the start or before it.
     Change {
         stop: Stop,
-        /// A start after the stop that has a clock, where one was found.
+        /// A start after the stop that has a clock, if one was found; in seconds since 1970-01-01T00:00:00 UTC.
         next: Option<i64>,
     },
-    /// The start lies outside -377,704,764,001 to 95,649,206,399.
+    /// The start lies outside -377,704,764,001 to 95,649,206,399 seconds since 1970-01-01T00:00:00 UTC.
     Outside,
     /// Memory was asked for and not found.
     OutOfMemory,
@@ -100,21 +100,21 @@ impl Clock {
         }
     }
 
-    /// Its table, to make times of.
+    /// Its table, with which times on the clock are made.
     pub fn table(&self) -> &ClockTable
         ensures { result.now ≡ self.now.table }
     {
         &self.table
     }
 
-    /// Where its window ends before year 5000 does.
+    /// Where and why its window ends early, if it ends before year 5000 does.
     pub fn stop(&self) -> Option<Stop>
         ensures { result ≡ self.now.stop }
     {
         self.stop
     }
 
-    /// The last second of its window, where that ends before year 5000 does.
+    /// The last second of its window, if that ends before year 5000 does.
     pub fn last(&self) -> Option<i64>
         ensures { result ≡ last_before self.now.stop }
     {
@@ -164,7 +164,7 @@ fn clock_up_to_stop(
     }
 }
 
-// Why there is no clock where its window stops here, at the start or before it.
+// Why there is no clock if its window stops here, at the start or before it.
 fn refusal_by(alloc: Global, zone: &TimeZone<'_>, stop: Stop) -> NoClock
     ensures { IsRefusalBy (plain_zone zone.now) stop result }
 {
@@ -230,7 +230,7 @@ fn stop_of(alloc: Global, zone: &TimeZone<'_>, first: i64) -> Result<Stop, Alloc
     Ok(Stop { second, reason })
 }
 
-/// How many seconds a zone's clock is ahead of UTC at a second.
+/// How many seconds a zone's clock is ahead of UTC at a second; a negative number is behind it.
 pub fn ahead_at(zone: &TimeZone<'_>, second: i64) -> i32
     requires { IsHeldSecond second }
     ensures { result ≡ ahead_at (plain_zone zone.now) second }
@@ -326,7 +326,7 @@ fn reason_by(earlier: i32, before: i32, there: i32, skipped: u64) -> Reason
     }
 }
 
-// The second from which on a window up to the last one is calm no more.
+// The first second with which a window up to the last one is no longer calm.
 fn stop_second_of(alloc: Global, zone: &TimeZone<'_>, first: i64) -> Result<i64, AllocError>
     requires window { IsWindow first last_second }
     requires not_calm { ¬ (IsCalmWindow (plain_zone zone.now) first last_second) }
@@ -369,7 +369,7 @@ fn is_calm(alloc: Global, zone: &TimeZone<'_>, first: i64, seconds: u64) -> Resu
     }
 }
 
-// How many seconds after a first one, which is calm by itself, a window is calm no more that isn't so many seconds after it.
+// How many seconds after a first one, which is calm by itself, a window is no longer calm, given that it isn't calm at `to_last` seconds.
 fn first_stop(
     alloc: Global,
     zone: &TimeZone<'_>,

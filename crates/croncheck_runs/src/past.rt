@@ -16,7 +16,7 @@ use croner_base::limits::FIRST_SEARCHED_SECOND;
 use jiff::tz::TimeZone;
 use std::alloc::{AllocError, Global};
 
-/// From so many seconds after the first one of a window on, runs on its clock are those of the zone.
+/// How many seconds after the first one of a window the runs on its clock begin to be those of the zone.
 const MARGIN: i64 = 180_000;
 
 /// The clock of a zone up to a second, from the beginning of year 1 on, or from where it is calm up to that second.
@@ -44,10 +44,10 @@ impl Drop for PastClock {
 }
 
 impl PastClock {
-    /// The clock of a zone up to a second, which is given in seconds since 1970-01-01T00:00:00 UTC. There is none where the second lies outside
-    /// -377,704,764,001 to 95,649,206,399, or where the zone's clock isn't calm at the second itself.
+    /// The clock of a zone up to a second, which is given in seconds since 1970-01-01T00:00:00 UTC. `None` if the second lies outside
+    /// -377,704,764,001 to 95,649,206,399, or if the zone's clock isn't calm at the second itself.
     ///
-    /// The only error is want of memory.
+    /// The only error is lack of memory.
     #[tactic(auto, using(crate::proofs::PastClocks::no_past, crate::proofs::PastClocks::no_past_outside))]
     pub fn of(
         alloc: Global,
@@ -67,14 +67,14 @@ impl PastClock {
         Ok(Some(clock))
     }
 
-    /// Its table.
+    /// Its table, with which times on the clock are made.
     pub fn table(&self) -> &ClockTable
         ensures { result.now ≡ self.now.table }
     {
         &self.table
     }
 
-    /// So many runs up to the last second are asked for. `None` where no clock of a table has that second.
+    /// What is asked for the last `count` runs up to the last second of the window. `None` if no clock of a table has that second.
     pub fn previous(&self, count: u32) -> Option<Previous<'_>>
         ensures asked { IfSome result (IsAskedOf self.now count) }
         ensures none { result ≡ None → is_table_second self.now.last ≡ false }
@@ -139,7 +139,7 @@ fn is_calm_back(
     }
 }
 
-// The first second from which on the clock is followed up to a last one, at which it is calm.
+// The first second from which the clock is followed up to a last one, at which it is calm.
 fn first_followed(alloc: Global, zone: &TimeZone<'_>, last: i64) -> Result<i64, AllocError>
     requires held { IsHeldStart last }
     requires calm { IsCalmWindow (plain_zone zone.now) (last -ℤ pos 0) last }
@@ -165,7 +165,7 @@ fn calm_seconds(alloc: Global, zone: &TimeZone<'_>, last: i64) -> Result<u64, Al
     last_calm(alloc, zone, last, most)
 }
 
-// The same where the clock isn't calm from so many seconds before the last one on, to which it would be followed back.
+// The same if the clock isn't calm from `most` seconds before the last one on, which is as far as it would be followed back.
 fn last_calm(alloc: Global, zone: &TimeZone<'_>, last: i64, most: u64) -> Result<u64, AllocError>
     requires reach { reach_of last ≡ last -ℤ pos most }
     requires window { IsWindow (last -ℤ pos most) last }

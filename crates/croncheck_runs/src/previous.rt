@@ -27,9 +27,9 @@ use std::alloc::Global;
 /// What is asked of the runs up to a start.
 #[derive(Clone, Copy)]
 pub struct Previous<'t> {
-    /// The start, which counts itself.
+    /// The start. A run at the start itself counts.
     pub start: TableTime<'t>,
-    /// From this second on the clock of the start is the zone's, in seconds since 1970-01-01T00:00:00 UTC. None before is listed.
+    /// From this second on the clock of the start is the zone's, in seconds since 1970-01-01T00:00:00 UTC. No run before it is listed.
     pub from: i64,
     /// The clock is followed back to the beginning of year 1.
     pub is_whole: bool,
@@ -37,10 +37,11 @@ pub struct Previous<'t> {
     pub count: u32,
 }
 
-/// The runs of a pattern up to a start, which counts itself, if they are asked for: the latest first, none left out down to the last. So each
-/// run is one of these, or one of those after the same start.
+/// The last runs of a pattern up to a start, if they are asked for: the latest first, and none left out down to the last one listed. A run
+/// at the start itself counts, so that each run is either one up to a start or one after it.
 ///
-/// It takes the room of as many runs as are asked. The only error is `OutOfMemory`. A search that is refused is the end of the listing.
+/// It takes memory for as many runs as are asked for. The only error is `OutOfMemory`. A search that is refused ends the listing, with
+/// `End::Failed`.
 pub fn previous_runs_of<'t>(
     alloc: Global,
     asked: Option<Previous<'t>>,
@@ -58,7 +59,8 @@ pub fn previous_runs_of<'t>(
     }
 }
 
-/// What cron has started of a crontab's job up to a start, if that is asked for, listed as the runs of a pattern are.
+/// What cron has started of a crontab's job up to a start, if that is asked for, listed as `previous_runs_of` lists runs. The only error is
+/// `OutOfMemory`.
 pub fn previous_starts_of<'t>(
     alloc: Global,
     asked: Option<Previous<'t>>,
@@ -122,7 +124,7 @@ fn starts_before<'t>(
     Ok(Runs { items, end })
 }
 
-// How a listing ends by how its search did, which left this fault. The only error is that memory was lacking there.
+// How a listing ends, by how its search ended and the fault that this left. The only error is lack of memory in the search.
 fn end_before(
     is_whole: bool,
     ending: ListingEnd,
@@ -139,7 +141,7 @@ fn end_before(
     }
 }
 
-// How a listing of starts ends by how its search did.
+// How a listing of starts ends, by how its search ended.
 fn end_of_starts(is_whole: bool, ending: StartsEnd) -> End
     ensures { result ≡ end_of_starts is_whole ending }
 {
@@ -163,8 +165,8 @@ fn end_of_years(is_whole: bool) -> End
 ///
 /// - items that begin the listing on the clock, none before that margin, begin that of the zone;
 /// - where none is left out on the clock from a second on that lies no earlier, none of the zone's runs is;
-/// - where the items are all that is left on the clock in the years that are searched, each run of the zone is among them that lies no earlier,
-///   and in these years.
+/// - where the items are all that is left on the clock in the years that are searched, each run of the zone that lies no earlier, and in
+///   these years, is among them.
 pub fn previous_runs_are_the_zones(clock: &PastClock)
     ensures begins { (zone : TimeZone) (first last : ℤ) (m : Meaning) (start : TableTime) →
         IsOnClockOf zone first last (table_zone clock.now.table) (table_moment start) → (items : List ℤ) → BeginsRest (ends_at m start) items →

@@ -36,42 +36,43 @@ pub enum Runner {
     Croner,
     /// Debian's cron: the line is a job of a crontab.
     Cron {
-        /// The job is starred; where the clock changes, cron goes by that.
+        /// The job is starred, which decides what cron does with it where the clock changes.
         is_starred: bool,
     },
 }
 
-/// A run of a pattern, or what cron starts of a crontab's job at one second.
+/// A run of a pattern, or the starts of a crontab's job by cron at one second.
 #[derive(Clone, Copy)]
 pub struct Run<'t> {
-    /// When it is, on the clock of the start.
+    /// When it is, on the clock of the listing's start.
     pub time: TableTime<'t>,
-    /// How many times the job is started then. It is more than once only where cron makes up for minutes that the clock has skipped.
+    /// How many times the job is started then: once, unless cron makes up for minutes that the clock has skipped.
     pub count: u32,
-    /// The wall second with which the first of these minutes begins. `None` where cron makes up for none, as of a pattern's run.
+    /// The wall second with which the first of these minutes begins. `None` if cron makes up for none, as at each run of a pattern.
     pub made_up: Option<i64>,
 }
 
 /// Which runs are listed.
 #[derive(Clone, Copy, Drop)]
 pub enum Listing {
-    /// So many.
+    /// This many runs, the nearest ones.
     Count(u32),
-    /// All up to this second, and that one too; in seconds since 1970-01-01T00:00:00 UTC.
+    /// All runs up to this second, one at the second itself too; in seconds since 1970-01-01T00:00:00 UTC.
     Until(i64),
 }
 
 /// How a listing ends.
 pub enum End {
-    /// As many as were asked were listed, and of none a run is left. Or all that come no later than a second, and a run is left after it.
+    /// As many runs as were asked for were listed; if none was asked for, a run is left. Or all runs up to a second were listed, and a run
+    /// is left after it.
     More,
-    /// No run is left in the years that are searched: every run of these was listed.
+    /// No run is left in the years that are searched: each run in these years was listed.
     Over,
-    /// The most runs were listed, and more may come up to the second.
+    /// `MOST_RUNS` runs were listed, which is the most, and more may come up to the second.
     Cut,
-    /// The clock's window ends: of its runs in the years that are searched each was listed, and more may come after it.
+    /// The clock's window ends: each run in it that lies in the years that are searched was listed, and more may come after the window.
     Window,
-    /// A search was refused, though not by the end of the years.
+    /// A search was refused, and not because the years that are searched end.
     Failed(CronError),
 }
 
@@ -89,7 +90,7 @@ impl Drop for End {
 }
 
 impl End {
-    /// Nothing is left in the years that are searched.
+    /// Whether nothing is left in the years that are searched.
     pub fn is_over(&self) -> bool
         ensures { result ≡ is_over self.now }
     {
@@ -99,7 +100,7 @@ impl End {
         }
     }
 
-    /// The clock's window ends.
+    /// Whether the listing ends because the clock's window does.
     pub fn is_at_end_of_window(&self) -> bool
         ensures { result ≡ is_at_end_of_window self.now }
     {
@@ -119,11 +120,11 @@ pub struct Runs<'t> {
     pub end: End,
 }
 
-/// The runs of a pattern after a start, which doesn't count itself: so many, or all up to a second. Where the window of the start's clock ends
-/// with a second, none after that is listed.
+/// The runs of a pattern after a start: so many, or all up to a second. A run at the start itself doesn't count. If the window of the
+/// start's clock ends with the second `last`, no run after it is listed.
 ///
-/// It takes the room of as many runs as are asked, or of `MOST_RUNS` where all up to a second are. The only error is `OutOfMemory`. A search
-/// that is refused is the end of the listing.
+/// It takes memory for as many runs as are asked for, or for `MOST_RUNS` if all up to a second are. The only error is `OutOfMemory`. A
+/// search that is refused ends the listing, with `End::Failed`.
 pub fn runs_of<'t>(
     alloc: Global,
     job: &Cron,
@@ -175,10 +176,10 @@ pub(crate) fn runs_once<'t>(
     Ok(runs)
 }
 
-/// What cron starts of a crontab's job after a start, which doesn't count itself, listed as the runs of a pattern are.
+/// What cron starts of a crontab's job after a start, listed as `runs_of` lists runs: what cron starts at the start itself doesn't count.
 ///
-/// It takes the room of as many starts as are asked, or of `MOST_RUNS` where all up to a second are, and then that of those that are listed.
-/// The only error is `OutOfMemory`.
+/// It takes memory for as many starts as are asked for, or for `MOST_RUNS` if all up to a second are, and besides for the runs that are
+/// listed. The only error is `OutOfMemory`.
 pub fn starts_of<'t>(
     alloc: Global,
     job: &CrontabJob,
@@ -231,7 +232,7 @@ fn run_at<'t>(job: &CrontabJob, time: TableTime<'t>, start: Start) -> Run<'t>
     }
 }
 
-// How a listing of starts ends by how its search did.
+// How a listing of starts ends, by how its search ended.
 fn end_of_starts(listing: Listing, last: Option<i64>, ending: StartsEnd) -> End
     ensures { result ≡ end_of_starts listing last ending }
 {
@@ -242,7 +243,7 @@ fn end_of_starts(listing: Listing, last: Option<i64>, ending: StartsEnd) -> End
     }
 }
 
-// The last second up to which is searched, where there is one. Of none asked it is the start: the next run ends the search, and is left.
+// The last second of the search, if it has one. If no run is asked for, that is the start: then the next run ends the search, and is left.
 pub(crate) fn bound_of(start: i64, last: Option<i64>, listing: Listing) -> Option<i64>
     ensures { result ≡ bound start last listing }
 {
@@ -274,7 +275,7 @@ pub(crate) fn limit_of(listing: Listing) -> u32
     }
 }
 
-// How a listing ends by how its search did, which left this fault. The only error is that memory was lacking there.
+// How a listing ends, by how its search ended and the fault that this left. The only error is lack of memory in the search.
 pub(crate) fn end_of(
     listing: Listing,
     last: Option<i64>,
@@ -312,7 +313,7 @@ fn end_before(run: i64, last: Option<i64>) -> End
     }
 }
 
-// How a listing ends with the years that are searched: more may come after the end of a window.
+// How a listing ends that reaches the end of the years that are searched: more may come after the end of a window.
 fn end_of_years(last: Option<i64>) -> End
     ensures { result ≡ end_of_years last }
 {
@@ -342,8 +343,8 @@ pub(crate) fn failed_end(fault: Option<&CronError>) -> Result<End, CronError>
 ///
 /// - items that begin the listing on the clock, none after the window's last second, begin that of the zone;
 /// - where none is left out on the clock up to a second of the window, none of the zone's runs is;
-/// - where the items are all that is left on the clock in the years that are searched, each run of the zone is among them that
-///   lies in the window and in these years;
+/// - where the items are all that is left on the clock in the years that are searched, each run of the zone that lies in the window and in
+///   these years is among them;
 /// - no run on a clock lies after the last second of a window that has no stop.
 pub fn runs_are_the_zones(clock: &Clock)
     ensures begins { (zone : TimeZone) (first last : ℤ) (m : Meaning) (start : TableTime) →

@@ -1,4 +1,4 @@
-//! The report of a line as text, the forms that write it, all of it or what is found alone, and patterns that are words of the call.
+//! The report of a line as text; the forms that write it, whole or only what is found; and patterns that are words of the call.
 #![tactic(auto)]
 
 mod ago;

@@ -28,8 +28,8 @@ pub enum Answer {
 
 /// Tells of patterns, in order, and answers the status of the call: 1 where one is refused, else 0.
 ///
-/// Each is read as a line of a file of patterns, blanks in front of it left out; a refused one is told where its fault is,
-/// and why. The error is that of what is written to, or says that memory is lacking.
+/// Each is read as a line of a file of patterns, without the blanks in front of it. Of a refused one it is told where its
+/// fault is, and why it is refused. The error is that of what is written to, or says that memory is lacking.
 pub fn tell_patterns<W: Write>(
     terms: &Terms<'_, '_>,
     words: &[&str],
@@ -77,7 +77,7 @@ fn is_told_refused<W: Write>(
     Ok(is_refused(&report))
 }
 
-// The report of a pattern as that of a line with its line feed.
+// The report of a pattern, read as a line that has its line feed.
 fn report_of_pattern<'l, 't>(terms: &Terms<'_, 't>, pattern: &'l [u8]) -> io::Result<Report<'l, 't>>
     ensures { IfOk result (IsReportOfPattern true terms.now.settings.now (blanks_of pattern.now) pattern.now) }
 {

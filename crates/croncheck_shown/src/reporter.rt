@@ -53,7 +53,8 @@ impl Form for Reporter {
     }
 }
 
-/// Writes the text of the report of a line at a place. The line is given without its line feed.
+/// Writes the text of the report of a line at a place. The line is given without its line feed. The
+/// error is that of what is written to, or says that memory is lacking.
 pub fn write_report<W: Write>(
     terms: &Terms<'_, '_>,
     place: Location<'_>,
@@ -68,7 +69,7 @@ pub fn write_report<W: Write>(
     output.write_apart(text.as_str())
 }
 
-/// Writes what cron makes of a file as a whole.
+/// Writes what cron makes of a file as a whole. The error is as that of `write_report`.
 pub fn write_ending<W: Write>(
     terms: &Terms<'_, '_>,
     progress: &Progress,

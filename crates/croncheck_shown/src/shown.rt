@@ -40,7 +40,7 @@ const SHOWN_BYTES: usize = 72;
 /// How many of these stand in front of a fault, where the line begins before them.
 const BYTES_BEFORE: usize = 24;
 
-/// The bytes of that in front of what is shown, and after it.
+/// The bytes of the marks of something left out, in front of what is shown and after it.
 const BOTH_LEFT_OUT: usize = 4;
 
 /// How many bytes of a line with a fault are shown at least, however narrow the lines are.
@@ -49,7 +49,7 @@ const LEAST_SHOWN: usize = 40;
 /// The text of the report of a line: whole lines, or nothing where there is nothing to tell. All that is found of the line
 /// stands last.
 ///
-/// The line is given without its line feed. The error comes where memory is lacking.
+/// The line is given without its line feed. The only error is lack of memory.
 pub fn report_text(
     alloc: Global,
     look: Look,
@@ -249,7 +249,8 @@ fn push_command(text: &mut String, command: &[u8]) -> Result<(), AllocError> {
     push_front(text, command, COMMAND_BYTES)
 }
 
-/// Puts after a text what the zone's clock shows at a run, and its second. The weekday is in English.
+/// Appends to a text what the zone's clock shows at a run, and the run's second. The weekday is in English. The only error is lack of
+/// memory.
 pub fn push_clock(
     text: &mut String,
     shared: &Shared<'_>,
@@ -261,7 +262,7 @@ pub fn push_clock(
     push_clock_in(Tongue::English, text, shared, run)
 }
 
-// The same with the weekday in a language.
+// The same, with the weekday in this language.
 fn push_clock_in(
     language: Tongue,
     text: &mut String,
@@ -348,7 +349,7 @@ fn ahead_at(shared: &Shared<'_>, run: &TableTime<'_>) -> Ahead
     }
 }
 
-/// What is said of a listing that ends where the clock's window does.
+/// What is said of a listing that ends where the clock's window does. The only error is lack of memory.
 pub fn window_end(alloc: Global, shared: &Shared<'_>) -> Result<String, AllocError>
     ensures { IfOk result (λ text. IsWindowEnd shared.now.stop (string_bytes text)) }
 {

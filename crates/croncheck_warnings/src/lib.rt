@@ -1,4 +1,5 @@
-//! What is to be said of a line that is taken, by its text and its times alone: no clock is asked.
+//! What is to be said of a line that isn't refused, by its text and its times alone: no clock is
+//! asked.
 #![tactic(auto)]
 
 pub mod presets;

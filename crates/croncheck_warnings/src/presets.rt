@@ -1,4 +1,4 @@
-//! Where another program reads a pattern otherwise.
+//! Where another program reads a pattern differently.
 ghost use Rattle.std.specs.Prelude.{◌≡◌, map, filter, IfOk, IfErr};
 ghost use Rattle.croncheck_warnings.specs.Presets.{is_taken, is_told, reading, AreReadings};
 
@@ -6,10 +6,10 @@ use croner::errors::CronError;
 use croner_presets::{Difference, Kind, Preset, differences};
 use std::alloc::{AllocError, Global};
 
-/// The name of the findings that say so.
+/// The name of the findings that say where another program reads a pattern differently.
 pub const PRESET: &str = "preset";
 
-/// What the program of a preset makes otherwise of a pattern.
+/// One thing in a pattern that the program of a preset reads differently.
 #[derive(Clone, Copy, Drop)]
 pub struct Reading {
     pub preset: Preset,
@@ -17,14 +17,14 @@ pub struct Reading {
 }
 
 impl Reading {
-    /// A sentence that says so. The only error is want of memory.
+    /// A sentence that says what the program reads differently. The only error is lack of memory.
     pub fn sentence(self, alloc: Global) -> Result<String, AllocError> {
         self.preset.sentence(alloc, self.difference)
     }
 }
 
-/// What the program of a preset, if there is one, makes otherwise of a pattern, in order: where the parser refuses it, what the program takes;
-/// else what the program refuses, or reads otherwise.
+/// What the program of a preset, if there is one, reads differently in a pattern, in order. If the parser refuses the pattern
+/// (`is_refused`), this is what the program accepts in it; else what the program refuses or reads differently.
 ///
 /// The only error is `OutOfMemory`.
 pub fn readings_of(

@@ -9,7 +9,8 @@ use crontab::bytes::{Kind, begins_with, cut};
 /// The nickname whose hours are a star.
 const HOURLY: &str = "@hourly";
 
-/// Whether a job is starred whose times are written so: the text of the minutes or that of the hours begins with a star, or it is `@hourly`.
+/// Whether a job with these times, as they are written, is starred: the text of the minutes or that of the hours begins with a star, or the
+/// times are `@hourly`.
 pub fn is_starred(times: &[u8]) -> bool
     ensures { result ≡ is_starred times.now }
 {

@@ -5,7 +5,7 @@ ghost use Rattle.croncheck_warnings.specs.Users.{is_line_of, has_user, begins_wi
 
 use crontab::bytes::{Kind, begins_with, cut};
 
-/// The users that are known.
+/// The users of a machine that are known.
 #[derive(Clone, Copy)]
 pub struct Users<'t> {
     /// A line for each, which begins with the user's name and a colon.
@@ -46,7 +46,8 @@ pub fn begins_with_user(users: Users<'_>, command: &[u8]) -> bool
     users.has(name) && begins_with(path, b'/')
 }
 
-/// Whether the user of a job is none of those that are known, if any are, and the file names one.
+/// Whether a job has a user that isn't known: users are known, the file names a user for the job,
+/// and that is none of them.
 pub fn is_unknown(users: Option<Users<'_>>, user: Option<&[u8]>) -> bool
     ensures { result ≡ is_unknown (users_seen users.entry) (option_map (λ u. u.now) user.entry) }
 {
@@ -56,14 +57,16 @@ pub fn is_unknown(users: Option<Users<'_>>, user: Option<&[u8]>) -> bool
     }
 }
 
-/// Where a user's name ends in the line of a job with this command: the byte after its last one.
+/// Where the user's name ends in the line of a job with this command: the number of the byte after
+/// its last one, counted from 0.
 pub fn user_end(line: &[u8], command: &[u8]) -> usize
     ensures { result ≡ user_end line.now command.now }
 {
     line.len().saturating_sub(command.len()).saturating_sub(1)
 }
 
-/// And where it begins.
+/// Where the name of this user begins in the line of a job with this command: the number of its
+/// first byte, counted from 0.
 pub fn user_start(line: &[u8], command: &[u8], user: Option<&[u8]>) -> usize
     ensures { result ≡ user_start line.now command.now (option_map (λ u. u.now) user.entry) }
 {

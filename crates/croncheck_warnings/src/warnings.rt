@@ -1,4 +1,4 @@
-//! Warnings: what is to be said of a line that is taken.
+//! Warnings: what is to be said of a line that isn't refused.
 ghost use Rattle.std.specs.Prelude.{◌≡◌, IfOk, IfErr, filter, length, ◌++◌, ◌&&◌, false, option_map};
 ghost use Rattle.croner.specs.Views.{job_of as meaning_of_job};
 ghost use Rattle.crontab.specs.Bytes.{begins_with};
@@ -41,19 +41,20 @@ pub const SAME_JOB: &str = "same-job";
 pub enum Warning {
     /// Neither day field is a star, a day needs to match only one of them, and at least one of them doesn't name each day.
     EitherDay,
-    /// Seconds, minutes or hours are `*/n`, and n is below 60, 60 or 24 and doesn't divide it.
+    /// The seconds, minutes or hours are `*/n`, and n is below 60, 60 or 24 and doesn't divide that number. For seconds and minutes n is
+    /// also above 15.
     UnevenStep(PatternField),
-    /// A step of the field leads past the end of its range, of which only the first value is named.
+    /// A step of the field leads past the end of its range, so that only the first value of the range is named.
     StepBeyond(PatternField),
     /// A range of the field runs down, so that it names nothing.
     RangeDown(PatternField),
     /// Bytes of the field stand after a part, and cron passes over them.
     PassedOver(PatternField),
-    /// A number of the field is 2^32 or more, of which the rest after division by 2^32 counts.
+    /// A number of the field is 2^32 or more; cron takes the remainder of its division by 2^32.
     LargeNumber(PatternField),
-    /// All minutes, but not all hours of all dates, and the hours aren't one range.
+    /// All minutes are named, but not all hours of all dates, and the hours aren't one range.
     WholeHour,
-    /// Each named day lies above 28, a named month of a named year lacks one, and not February 29 alone is named.
+    /// Each named day is above 28, and one of them is missing in some named month of a named year. Not where February 29 alone is named.
     ShortMonths,
     /// All named years are past.
     Gone,
@@ -61,13 +62,13 @@ pub enum Warning {
     Never,
     /// There is no command: it is spaces alone, or begins with `#`, as a comment does.
     NoCommand,
-    /// What stands after five fields, a user's name or the command, begins with a word that may be one of weekdays.
+    /// What stands after five fields, a user's name or the command, begins with a word that may be a field of weekdays.
     LooksLikeField,
     /// The word in the user's place is no user's name; or the command of a user's crontab begins with the name of one.
     User,
-    /// The command has a percent sign that no backslash takes in.
+    /// The command has a percent sign that no backslash escapes.
     Percent,
-    /// The command ends in a backslash that no other takes in.
+    /// The command ends in a backslash that no other backslash escapes.
     Continued,
     /// A control byte but the tab, or a character that nobody sees, stands within the line.
     ControlByte,
@@ -77,9 +78,9 @@ pub enum Warning {
     CarriageReturn,
     /// A list of a pattern has an empty item.
     EmptyItem,
-    /// A field of a pattern has the name of a month or of a weekday, and it is none of this field.
+    /// A field of a pattern has the name of a month or of a weekday, and that isn't a name of this field.
     OtherName(PatternField),
-    /// The program that patterns are read for refuses the pattern, or reads it otherwise.
+    /// The program that patterns are read for refuses the pattern, or reads it differently.
     Preset(Reading),
 }
 
@@ -93,9 +94,9 @@ pub enum OtherWarning {
     ControlByte,
     /// The setting's variable is `CRON_TZ` or `TZ`.
     NoZone,
-    /// The setting's value has what cron takes as it stands, and a shell doesn't.
+    /// The setting's value has something that a shell would expand, and that cron takes as it stands.
     NotExpanded,
-    /// The file is longer than cron takes it.
+    /// The file has more lines than cron takes.
     ManyLines,
 }
 
@@ -162,15 +163,15 @@ pub struct Subject<'s, 'j> {
     pub users: Option<Users<'s>>,
     /// Its command, where it is a job of a crontab.
     pub command: Option<&'s [u8]>,
-    /// It stands in a crontab, and is no pattern alone.
+    /// It is a job of a crontab, and not a pattern alone.
     pub is_crontab: bool,
-    /// It has its line feed.
+    /// Its line has a line feed.
     pub is_fed: bool,
     /// Its times name no year from the start on.
     pub is_past: bool,
     /// Its times leave no run before year 5000.
     pub is_never: bool,
-    /// Its runs are listed up to the end of the clock's window, so that it isn't known which years and months they come in after it.
+    /// The listing of its runs ends where the clock's window does, so that it isn't known in which years and months later runs come.
     pub is_at_window_end: bool,
 }
 
@@ -228,7 +229,7 @@ fn holds(alloc: Global, subject: &Subject<'_, '_>, warning: Warning) -> Result<b
         Warning::CarriageReturn => Ok(has_carriage_return(subject.command)),
         Warning::EmptyItem => Ok(!subject.is_crontab && has_empty_items(&subject.fields)),
         Warning::OtherName(field) => Ok(has_other_name(subject, field)),
-        // It isn't of the line alone.
+        // What another program reads isn't known from the line alone.
         Warning::Preset(_) => Ok(false),
     }
 }
@@ -529,21 +530,22 @@ fn has_carriage_return(command: Option<&[u8]>) -> bool
     }
 }
 
-/// Whether a user's crontab of so many lines has more than `crontab` takes.
+/// Whether a user's crontab of `lines` lines has more than `crontab` takes.
 pub fn are_many_lines(lines: u64) -> bool
     ensures { result ≡ are_many_lines lines }
 {
     MOST_LINES < lines
 }
 
-/// Whether the line after so many of a user's crontab is the first that is too many.
+/// Whether the line after `lines` lines of a user's crontab is the first that is too many.
 pub fn is_first_too_many(lines: u64) -> bool
     ensures { result ≡ is_first_too_many lines }
 {
     lines == MOST_LINES
 }
 
-/// Whether the line of a number stands after the last one at which cron takes a job or a setting of a crontab of the system.
+/// Whether the line with this number, counted from 1, stands after the last one at which cron takes a job or a setting of a crontab of
+/// the system.
 pub fn is_after_last(number: u64) -> bool
     ensures { result ≡ is_after_last number }
 {

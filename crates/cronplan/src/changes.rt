@@ -10,7 +10,7 @@ use crate::start::wall_of;
 use croner_base::time::table::{ClockTable, TableTime};
 use std::alloc::{AllocError, Global};
 
-/// A change of a clock: at a second it shows something other than what would follow what it showed the second before.
+/// A change of a clock: a second at which it doesn't show the time one second after what it showed the second before.
 #[derive(Debug, Clone, Copy)]
 pub struct ClockChange {
     /// The second, counted from 1970-01-01T00:00:00 UTC.

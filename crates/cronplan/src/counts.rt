@@ -90,7 +90,7 @@ pub(crate) fn counts_by(
     Ok(counts)
 }
 
-/// Whether on some day that the clock shows there are more than `most_a_day` of these starts.
+/// Whether some date that the clock shows has more than `most_a_day` of these starts.
 ///
 /// There may be 2^31 starts at most. The only error is lack of memory.
 #[tactic(auto, using(crate::proofs::CountedStarts::counted))]

@@ -49,8 +49,8 @@ pub struct Day {
 /// The dates that a clock shows in a plan, and its changes there.
 #[derive(Debug, Drop)]
 pub struct Days {
-    /// The dates in order, none left out: from the one at the first second of the span to the one at its last. Where the clock is put back
-    /// across midnight, they reach as far as there are starts.
+    /// The dates in order, none left out: from the one at the first second of the span to the one at its last. If the clock is put back
+    /// across midnight, a start may lie on an earlier or a later date; then they reach to that one.
     pub days: Vec<Day>,
     /// The changes of the clock in the span, in order.
     pub changes: Vec<ClockChange>,
@@ -123,7 +123,7 @@ fn shown_hours(table: &ClockTable, span: Span, changes: &[ClockChange]) -> Shown
     shown
 }
 
-// Those at the first and the last second of a span.
+// The hours that the clock shows at the first and the last second of a span.
 fn shown_at_ends(table: &ClockTable, span: Span) -> ShownHours
     ensures { result ≡ shown_at_ends (table_zone table.now) span }
 {
@@ -133,7 +133,7 @@ fn shown_at_ends(table: &ClockTable, span: Span) -> ShownHours
     }
 }
 
-// These, and those from which and to which a change in the span puts the clock.
+// These hours, widened by the ones from which and to which a change in the span puts the clock.
 fn widened_hours(span: Span, shown: ShownHours, change: ClockChange) -> ShownHours
     ensures { result ≡ widened_hours span shown change }
 {

@@ -5,7 +5,7 @@
 pub struct Frequent {
     /// Its place among the jobs, from 0.
     pub job: usize,
-    /// How many starts it has in the span. If more than `MOST_STARTS` seconds have one, only those at the first `MOST_STARTS` + 1 are
-    /// counted.
+    /// How many starts it has in the span. If it starts at more than `MOST_STARTS` seconds, only the starts at the first
+    /// `MOST_STARTS` + 1 of them are counted.
     pub starts: u64,
 }

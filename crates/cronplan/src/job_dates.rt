@@ -36,15 +36,16 @@ impl DateRange {
 
 /// The jobs of a plan by the dates of a clock.
 ///
-/// A job is daily that starts on every date that lies wholly in the span, where there are two such dates or more. These dates come after the one
-/// that the clock shows the second before the span, and before the one that it shows at its end.
+/// A job is daily if it starts on every date that lies wholly in the span, and there are two such dates or more. A date lies wholly in the
+/// span if it comes after the one that the clock shows the second before the span, and before the one that the clock shows at the span's
+/// end.
 #[derive(Debug, Drop)]
 pub struct JobDates {
     /// The dates of the plan, as `Days` has them.
     pub dates: DateRange,
     /// The places of the daily jobs, in the order of their first starts.
     pub daily: Vec<usize>,
-    /// Of each other job the first start on each date, in order.
+    /// The first start of each other job on each date, in order.
     pub rarer: Vec<JobStart>,
 }
 
@@ -57,13 +58,13 @@ enum Per {
     Plan,
 }
 
-/// A daily job starts on so many dates at least.
+/// The least number of dates on which a daily job starts.
 const LEAST_DATES: u64 = 2;
 
 impl Plan {
     /// The jobs of the plan by the dates on which they start, on the clock of a table.
     ///
-    /// The only error is want of memory.
+    /// The only error is lack of memory.
     pub fn job_dates(&self, alloc: Global, table: &ClockTable) -> Result<JobDates, AllocError>
         ensures { IfOk result (AreJobDates (table_zone table.now) self.now.span self.now.starts.items) }
     {

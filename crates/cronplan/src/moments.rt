@@ -76,7 +76,8 @@ pub(crate) fn moment_of(start: &JobStart, starts_then: &[JobStart]) -> Moment
     }
 }
 
-/// All starts at the second of the one at a place. `None` where one before has it too.
+/// All starts at the second of the one at a place. `None` if an earlier one in the list has the same
+/// second.
 pub(crate) fn starts_from(starts: &[JobStart], place: usize) -> Option<&[JobStart]>
     requires order { IsSorted start_cmp starts.now }
     requires inside { place < length starts.now }

@@ -23,8 +23,8 @@ pub const MOST_STARTS: usize = 100_000;
 
 /// The starts of jobs in a span, in order of their seconds, and at one second by the places of their jobs.
 ///
-/// Where there are more than `MOST_STARTS`, the span ends at the second of the first start too many. So all starts in the span are kept,
-/// and counts and windows are those of the shorter span.
+/// Where there are more than `MOST_STARTS`, the span is cut: it ends at the second of the first start too many. So all starts in the
+/// span are kept, and counts and windows are those of the shorter span.
 #[derive(Debug, Drop)]
 pub struct Plan {
     pub span: Span,
@@ -35,8 +35,8 @@ pub struct Plan {
 }
 
 impl Plan {
-    /// The plan of these starts, in whatever order they come, none of which may come before the span. Those at its end or later are left
-    /// out; where there are more than `MOST_STARTS`, the span of the plan ends earlier.
+    /// The plan of these starts, which may come in any order, but none of them before the span. Starts at the span's end or later are
+    /// left out. If there are more than `MOST_STARTS`, the span of the plan ends earlier.
     pub fn of_starts(span: Span, starts: Vec<JobStart>) -> Plan
         requires { All (λ s. span.first ≤ℤ s.second) starts.items }
         ensures { Merges starts.items span.first span.end result.starts.items result.span }
@@ -69,7 +69,7 @@ impl Plan {
 
     /// The fullest moments of the plan, at most `most`: the one with the most starts first, and of equal ones the earlier.
     ///
-    /// A moment is a second at which a job starts. Where there are fewer, all are given. The only error is lack of memory.
+    /// A moment is a second at which a job starts. If the plan has fewer than `most`, all are given. The only error is lack of memory.
     pub fn fullest_moments(&self, alloc: Global, most: usize) -> Result<Vec<Moment>, AllocError>
         ensures { IfOk result (λ moments. AreFullest self.now.starts.items most moments.items) }
     {

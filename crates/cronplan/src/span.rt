@@ -18,8 +18,8 @@ pub struct Span {
 }
 
 impl Span {
-    /// The span from a second on up to another. `None` where that is earlier, or where it begins before `EARLIEST_FIRST` or ends after `LATEST_END`,
-    /// nearly the UTC years -9999 to 9999.
+    /// The span from `first` up to but not including `end`. `None` if `end` is earlier than `first`, `first` is earlier than
+    /// `EARLIEST_FIRST`, or `end` is later than `LATEST_END`. These two bound nearly the UTC years -9999 to 9999.
     pub fn new(first: i64, end: i64) -> Option<Span>
         ensures { MatchOption result (is_span first end ≡ false) (λ s. (s.first ≡ first) × (s.end ≡ end)) }
     {
@@ -30,7 +30,7 @@ impl Span {
         }
     }
 
-    /// Up to which second a search in the span goes: the one before its end. There always is one.
+    /// The second up to which a search in the span goes: the one before its end. It is always `Some`.
     #[tactic(auto, using(crate::proofs::SpanSeconds::span_ends))]
     pub fn until(self) -> Option<i64>
         ensures { result ≡ Some (self.end -ℤ pos 1) }
@@ -38,7 +38,7 @@ impl Span {
         Some(self.last())
     }
 
-    // The last second of it, or where it has none the one before it.
+    // Its last second, or if it is empty the second before it.
     #[tactic(auto, using(crate::proofs::SpanSeconds::span_ends))]
     pub(crate) fn last(self) -> i64
         ensures { result ≡ self.end -ℤ pos 1 }

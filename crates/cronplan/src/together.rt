@@ -34,7 +34,7 @@ struct Meeting {
 
 impl Plan {
     /// The sets of two or more different jobs that start together: for each moment of the plan at which several jobs start, the set of
-    /// these. Each set comes once, the one with the most moments first, and of equal ones the one whose first moment is earlier.
+    /// those jobs. Each set comes once, the one with the most moments first, and of equal ones the one whose first moment is earlier.
     ///
     /// A job that the plan names as too frequent is in none of them. The only error is lack of memory.
     pub fn sets_together(&self, alloc: Global) -> Result<Vec<Together>, AllocError>

@@ -37,7 +37,7 @@ pub struct Window {
 }
 
 impl Window {
-    /// How many seconds it is from one side to the other. From a start to the next one the first start's own second is counted.
+    /// How many seconds it is from one side to the other. The second of the first side is counted, and that of the second side isn't.
     pub fn seconds(&self) -> u64
         ensures { result ≡ seconds_in self.now }
     {

@@ -4,9 +4,9 @@ ghost use Rattle.cronplan_forms.specs.Apart.{set_apart};
 
 use std::alloc::AllocError;
 
-/// Puts a text after another one, with an empty line between where there is anything of both.
+/// Appends a text to another one, with an empty line between them if neither is empty.
 ///
-/// The only error is want of memory; what then stands after the text is not said.
+/// The only error is lack of memory; the text's end is then unspecified.
 pub(crate) fn push_apart(text: &mut String, part: &str) -> Result<(), AllocError>
     ensures { OnOk result (string_bytes text.new ≡ set_apart (string_bytes text.old) part.now) }
 {

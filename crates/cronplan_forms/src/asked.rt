@@ -9,16 +9,17 @@ pub struct PlanAsked {
     pub has_commands: bool,
     /// What it answers in place of its list, if anything is asked.
     pub questions: Questions,
-    /// The most starts on a day of a job that the answers are about, if there is such a number.
+    /// The most starts that a job may have on a day, if the answers are to be about it. `None`:
+    /// they are about all jobs.
     pub most_a_day: Option<u64>,
-    /// The file that it is asked for, if any: then nothing is written after the files.
+    /// The file that is asked for, if any. Then no list and no answers are written.
     pub file: Option<FileAsked>,
 }
 
-/// A file that a plan is asked for.
+/// A file as which a plan is asked for.
 #[derive(Clone, Copy)]
 pub enum FileAsked {
-    /// A calendar, and how many seconds each of its events lasts, where that is told.
+    /// A calendar, and how many seconds each of its events lasts, if that is said.
     Calendar(Option<u64>),
     /// A page (HTML).
     Page,

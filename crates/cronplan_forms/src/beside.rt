@@ -12,7 +12,7 @@ use std::fmt;
 pub struct OtherClock<'c> {
     /// The name of its zone.
     pub zone: &'c str,
-    /// `None` where it isn't followed in these days.
+    /// `None` if its clock isn't followed in the span of the plan.
     pub table: Option<&'c ClockTable>,
 }
 

@@ -21,8 +21,8 @@ pub struct ClockTime {
 }
 
 impl ClockTime {
-    /// What the clock of a table shows at a second. For one that the table doesn't have, outside the UTC years -9999 to 9999, it is the
-    /// beginning of 1970.
+    /// What the clock of a table shows at a second. For a second that the table doesn't have, outside the UTC years -9999 to 9999, it
+    /// is the beginning of 1970.
     pub fn shown_at(table: &ClockTable, second: i64) -> ClockTime
         ensures { IsClockAt (table_zone table.now) second result }
     {

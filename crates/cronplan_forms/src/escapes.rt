@@ -16,8 +16,8 @@ pub enum Form {
 
 /// A text as it is written in a form.
 ///
-/// No character of it ends a property of a calendar, or an element or attribute of a page: one that would is escaped. Other ASCII control
-/// characters are written by number, as `\u{1b}`. The only error is lack of memory.
+/// No character of the result ends a property of a calendar, or an element or attribute of a page: one that would is escaped. Other ASCII
+/// control characters are written by number, as `\u{1b}`. The only error is lack of memory.
 pub fn escape(alloc: Global, text: &str, form: Form) -> Result<String, AllocError>
     ensures value { IfOk result (λ t. string_bytes t ≡ escaped_text form text.now) }
     ensures closed { IfOk result (λ t. IsTrue (list_all (ends_nothing form) (string_bytes t))) }

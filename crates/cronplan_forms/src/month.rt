@@ -23,9 +23,9 @@ pub struct Titled<'m> {
 /// A day of a month.
 #[derive(Clone, Copy)]
 pub struct MonthDay<'m> {
-    /// The titles of what starts on it, but for what starts on every day. The first three are shown, and how many are left.
+    /// The titles of what starts on it, but for what starts on every day. The first three are shown, and how many more there are.
     pub titles: &'m [Titled<'m>],
-    /// Whether it is one of the plan. Another has a mark after its number.
+    /// Whether it is a date of the plan. A day that isn't has a mark after its number.
     pub is_in_plan: bool,
 }
 
@@ -71,8 +71,9 @@ const DAILY_WORDS: usize = 50;
 /// The grid: the month's name, the names of the weekdays, and for each week its dates, and below each date the titles of what starts on it. A line
 /// on which no day of the week has something is left out.
 ///
-/// A text that is too long is cut between two characters, and a `~` stands in place of the last that has room; a character counts as a column. One that
-/// a terminal acts on, or that ends a line, is a `?`. The only error is want of memory.
+/// A text that is too long is cut between two characters, and a `~` stands in place of the last character for which there is room; each
+/// character counts as one column. A character that a terminal acts on, or that ends a line, is shown as a `?`. The only error is lack of
+/// memory.
 pub(crate) fn month_text(alloc: Global, month: Month<'_>) -> Result<String, AllocError>
     ensures { IfOk result (λ t. string_bytes t ≡ month_text month.entry) }
 {

@@ -24,7 +24,8 @@ pub struct View<'v> {
     pub is_cut: bool,
     /// The jobs that lack a start where the clock is put forward.
     pub dropped: &'v [Dropped],
-    /// The clock that is shown beside, if there is one. Answers don't show it.
+    /// The clock of a second zone that is shown beside the first, if there is one. Answers don't show
+    /// it.
     pub other: Option<OtherClock<'v>>,
 }
 
@@ -46,7 +47,7 @@ impl View<'_> {
     }
 }
 
-/// How many starts the job at a place has, if it is one of these.
+/// How many starts the job at a place has, if it is one of these, which start too often.
 #[tactic(auto, using(crate::proofs::Frequents::frequent_count_step))]
 pub fn frequent_count(frequent: &[Frequent], place: usize) -> Option<u64>
     ensures { result ≡ frequent_count frequent.now place }

@@ -33,11 +33,11 @@ pub struct WeekDay<'w> {
 /// The least starts in an hour of each of the steps.
 const STEPS: [u64; 9] = [0, 1, 2, 4, 8, 16, 32, 64, 128];
 
-/// The picture of a plan: a row a date, and what the signs mean; below a line for each change of the clock, and the longest windows of an hour
-/// or more in which nothing starts, as `quiet_text` tells them, in five lines at most.
+/// The picture of a plan: a row a date, and what the signs mean. Below it stand a line for each change of the clock, and the longest
+/// windows of an hour or more in which nothing starts, as `quiet_text` tells them, in five lines at most.
 ///
-/// A sign stands for the number of starts in an hour, in doubling steps; an hour that the clock skips is an `x`, and one that the plan doesn't
-/// have a dash. The only error is lack of memory.
+/// A sign stands for the number of starts in an hour, in doubling steps. An hour that the clock skips is an `x`, and an hour that the plan
+/// doesn't have is a dash. The only error is lack of memory.
 pub fn week_text(alloc: Global, view: View<'_>, signs: Signs) -> Result<String, AllocError>
     ensures { IfOk result (λ t. (week : PlanWeek) × IsPlanWeek view.entry.table.now view.entry.plan.now week × (string_bytes t ≡ week_text signs view.entry week)) }
 {

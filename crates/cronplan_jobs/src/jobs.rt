@@ -23,10 +23,10 @@ struct Gathering {
 }
 
 /// The plan of jobs in a span, on the clock of a table: the starts of the jobs that are shown, and the jobs that aren't. A job isn't shown
-/// if it has more than `most_a_day` starts on some day that the clock shows. Without that number each job is shown.
+/// if it has more than `most_a_day` starts on some day that the clock shows. If `most_a_day` is `None`, each job is shown.
 ///
-/// A job's place is its index among the jobs. The only error is `OutOfMemory`, except where the clock refuses a second or a date of the
-/// search of a pattern, which doesn't happen in the searched years: `InvalidTime` or `InvalidDate`.
+/// A job's place is its index among the jobs. The error is `OutOfMemory`. It would be `InvalidTime` or `InvalidDate` if the clock refused
+/// a second or a date while the runs of a pattern are searched, which doesn't happen in the years that are searched.
 ///
 /// ```
 /// let span = Span::new(1_806_188_400, 1_806_793_200); // a week from 2027-03-28T00:00:00 in Paris
@@ -101,7 +101,7 @@ fn name_job(gathering: &mut Gathering, place: usize, starts: &[JobStart]) -> Res
     Ok(())
 }
 
-// Shows these starts of a job; up to an end none is left out.
+// Shows these starts of a job, of which none before `end` is left out.
 fn show_starts(gathering: &mut Gathering, starts: &[JobStart], end: i64) -> Result<(), AllocError>
     ensures { OnOk result (Shows starts.now end gathering.old gathering.new) }
 {
@@ -110,7 +110,7 @@ fn show_starts(gathering: &mut Gathering, starts: &[JobStart], end: i64) -> Resu
     Ok(())
 }
 
-// Whether on some day there are more of these starts than a number, if there is one.
+// Whether some day has more than `most_a_day` of these starts; never, if that is `None`.
 fn is_over(alloc: Global, starts: &[JobStart], most_a_day: Option<u64>) -> Result<bool, AllocError>
     requires { length starts.now ≤ 2 ^ 31 }
     ensures { IfOk result (λ b. IsTrue b ↔ IsOver most_a_day starts.now) }

@@ -35,8 +35,8 @@ const MOST_LISTED: u32 = MOST_STARTS as u32 + 1;
 /// The starts of a job in a span, in order, and the second up to which none is left out. That is the end of the span, or the second of
 /// the last start where there are more than a plan keeps.
 ///
-/// It takes memory for `MOST_STARTS` + 1 starts. The only error is `OutOfMemory`, except where the clock refuses a second or a date of
-/// the search of a pattern, which doesn't happen in the searched years: `InvalidTime` or `InvalidDate`.
+/// It takes memory for `MOST_STARTS` + 1 starts. The error is `OutOfMemory`. It would be `InvalidTime` or `InvalidDate` if the clock
+/// refused a second or a date while the runs of a pattern are searched, which doesn't happen in the years that are searched.
 pub(crate) fn starts_in(
     alloc: Global,
     schedule: &Schedule,
@@ -163,7 +163,7 @@ fn runs_from(
     Ok((starts, end))
 }
 
-// What ended a search: a second or a date that the clock refuses, or want of memory. No search has another fault.
+// What ended a search: a second or a date that the clock refuses, or lack of memory. No search has another fault.
 fn fault_of(fault: Option<&CronError>) -> CronError
     ensures { IsNotListed result }
 {

@@ -15,7 +15,7 @@ use cronplan_forms::{WeekDay, hour_counts, named_days};
 use serde_json::{Map, Value, put};
 use std::alloc::{AllocError, Global};
 
-/// An object for each date of a plan. The only error is want of memory.
+/// An object for each date of a plan. The only error is lack of memory.
 pub(crate) fn days_value(
     alloc: Global,
     plan: &Plan,
@@ -51,7 +51,7 @@ fn day_object(alloc: Global, day: WeekDay<'_>) -> Result<Value, AllocError>
     Ok(Value::Object(members))
 }
 
-// The text of a date; null of one that no calendar has.
+// The text of a date; null for one that the calendar doesn't have.
 fn date_value(alloc: Global, begin: Option<CivilDateTime>) -> Result<Value, AllocError>
     ensures { IfOk result (λ v. view v ≡ date_data begin) }
 {
@@ -64,7 +64,7 @@ fn date_value(alloc: Global, begin: Option<CivilDateTime>) -> Result<Value, Allo
     }
 }
 
-// How many starts there are in each of these hours; null of one that the clock skips.
+// How many starts there are in each of these hours; null for one that the clock skips.
 fn cells_value(alloc: Global, cells: &[HourCell]) -> Result<Value, AllocError>
     ensures { IfOk result (λ v. view v ≡ array (items_of (map hour_data cells.now))) }
 {
@@ -92,7 +92,7 @@ fn hour_value(cell: HourCell) -> Value
     }
 }
 
-/// How many starts of a plan come in each hour of the day, on all its dates together. The only error is want of memory.
+/// How many starts of a plan come in each hour of the day, on all its dates together. The only error is lack of memory.
 pub(crate) fn hours_value(alloc: Global, plan: &Plan) -> Result<Value, AllocError>
     ensures { IfOk result (λ v. (hours : List ℕ) × AreHourCounts plan.now.starts.items hours × (view v ≡ counts hours)) }
 {

@@ -20,8 +20,9 @@ pub const VERSION: u32 = 1;
 /// A plan as one object of JSON, without blanks or a line feed: its span, its jobs but for their commands, its moments with the jobs that start
 /// then, the windows of at least an hour in which nothing starts, its dates hour by hour, and its starts by the hour of the day.
 ///
-/// A moment names its jobs by their places among the jobs. Of a job that starts too often to be shown only the count of its starts is told. Where
-/// the clock of a second zone is shown, each second has what that shows then, or null where it isn't followed. The only error is want of memory.
+/// A moment names its jobs by their places among the jobs. Of a job that starts too often to be shown, only the count of its starts is
+/// told. If a second zone is shown, each second also has what that zone's clock shows then, or null if that clock isn't followed. The only
+/// error is lack of memory.
 pub fn plan_json(alloc: Global, view: View<'_>) -> Result<String, AllocError>
     ensures { IfOk result (λ t. IsPlanJson view.entry (string_bytes t)) }
 {
@@ -49,7 +50,7 @@ fn plan_object(alloc: Global, view: View<'_>) -> Result<Value, AllocError>
     Ok(Value::Object(members))
 }
 
-// The members of a view but for its lists, whose span begins and ends at these seconds.
+// The members of a view but for its lists, given the seconds at which its span begins and ends.
 fn own_members(
     alloc: Global,
     view: View<'_>,

@@ -30,7 +30,8 @@ fn instant_object(alloc: Global, time: &ShownTime) -> Result<Value, AllocError>
     Ok(Value::Object(members))
 }
 
-/// Puts what the clock of a second zone shows among members, if that is shown. The only error is lack of memory.
+/// Puts what the clock of a second zone shows among members, if a second zone is shown. The only error is lack
+/// of memory.
 pub(crate) fn put_shown(
     alloc: Global,
     members: &mut Map<String, Value>,

@@ -21,7 +21,7 @@ struct JobCount {
     is_frequent: bool,
 }
 
-/// An object for each job of a view, in their order. The only error is want of memory.
+/// An object for each job of a view, in their order. The only error is lack of memory.
 pub(crate) fn jobs_value(alloc: Global, view: View<'_>) -> Result<Value, AllocError>
     ensures { IfOk result (λ v. data_of v ≡ array (items_of (job_objects view.entry.frequent.now view.entry.plan.now.starts.items 0 view.entry.jobs.now))) }
 {
@@ -30,7 +30,7 @@ pub(crate) fn jobs_value(alloc: Global, view: View<'_>) -> Result<Value, AllocEr
     Ok(Value::Array(items))
 }
 
-// How many starts each job has that has one.
+// How many starts each job has, for the jobs that have one.
 fn counts_by_job(alloc: Global, starts: &[JobStart]) -> Result<BTreeMap<usize, u64>, AllocError>
     requires { length starts.now ≤ 2 ^ 31 }
     ensures { IfOk result (λ m. (place : ℕ) → unwrap_or (get nat_cmp m place) 0 ≡ starts_of place starts.now) }
@@ -54,7 +54,7 @@ fn add_start(counts: &mut BTreeMap<usize, u64>, start: &JobStart) -> Result<(), 
     Ok(())
 }
 
-// An object for each job of a view, whose starts are counted so.
+// An object for each job of a view, given the counts of their starts.
 #[tactic(auto, using(crate::proofs::PlacedJobs::objects_step))]
 fn job_items(
     alloc: Global,
@@ -73,7 +73,7 @@ fn job_items(
     Ok(items)
 }
 
-// What is counted of the job at a place: of one that is left out what is told of it.
+// What is counted of the job at a place: if the job is left out, the count that the view has of it.
 fn count_at(view: View<'_>, counts: &BTreeMap<usize, u64>, place: usize) -> JobCount
     requires { (k : ℕ) → unwrap_or (get nat_cmp counts.now k) 0 ≡ starts_of k view.plan.now.starts.items }
     ensures starts { result.starts ≡ job_starts view.entry.frequent.now view.entry.plan.now.starts.items place }

@@ -16,7 +16,7 @@ use cronplan_forms::{TimedMoment, View, timed_moments};
 use serde_json::{Map, Value, put};
 use std::alloc::{AllocError, Global};
 
-/// An object for each moment of a plan, the earliest first. The only error is want of memory.
+/// An object for each moment of a plan, the earliest first. The only error is lack of memory.
 pub(crate) fn moments_value(alloc: Global, view: View<'_>) -> Result<Value, AllocError>
     ensures { IfOk result (λ v. (timed : List TimedMoment) × AreMomentsOf view.entry timed × (data_of v ≡ array (items_of (map (moment_object view.entry.plan.now.starts.items) timed)))) }
 {
@@ -74,7 +74,7 @@ fn starts_from(starts: &[JobStart], second: i64) -> &[JobStart]
     starts.split_at(count).1
 }
 
-// Of starts that stand in order, none before a second, those at it.
+// Of starts that stand in order, none of them before a second, those at it.
 fn starts_up_to(starts: &[JobStart], second: i64) -> &[JobStart]
     requires order { IsSorted start_cmp starts.now }
     requires late { All (λ s. second ≤ℤ s.second) starts.now }

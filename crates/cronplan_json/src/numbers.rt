@@ -6,7 +6,7 @@ ghost use Rattle.cronplan_json.specs.Objects.{count, counts};
 use serde_json::Value;
 use std::alloc::{AllocError, Global};
 
-/// A list of these numbers. The only error is want of memory.
+/// A list of these numbers. The only error is lack of memory.
 pub(crate) fn numbers_value(alloc: Global, numbers: &[u64]) -> Result<Value, AllocError>
     ensures { IfOk result (λ v. view v ≡ counts numbers.now) }
 {

@@ -11,10 +11,11 @@ use cronplan_forms::{TimedWindow, View, is_at_edge, timed_windows};
 use serde_json::{Map, Value};
 use std::alloc::{AllocError, Global};
 
-/// The least seconds of a window that is told.
+/// The seconds of the shortest window that is told.
 pub const QUIET_SECONDS: u64 = 3_600;
 
-/// An object for each window of a plan that is so long and in which nothing starts, the longest first. The only error is want of memory.
+/// An object for each window of a plan in which nothing starts for at least `QUIET_SECONDS`, the longest first. The only error is lack
+/// of memory.
 pub(crate) fn quiet_value(alloc: Global, view: View<'_>) -> Result<Value, AllocError>
     ensures { IfOk result (λ v. (timed : List TimedWindow) × AreQuietOf view.entry timed × (data_of v ≡ array (items_of (map window_object timed)))) }
 {

@@ -14,6 +14,6 @@ pub struct About<'p> {
     pub title: &'p str,
     /// What cron ignores or refuses.
     pub ignored: &'p [Line<'p>],
-    /// What to beware of, by the places of the jobs. For a job whose place isn't listed nothing is said.
+    /// What to beware of, by the places of the jobs. Nothing is said for a job whose place isn't listed.
     pub warnings: &'p [Warnings<'p>],
 }

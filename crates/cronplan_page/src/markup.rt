@@ -22,7 +22,8 @@ pub(crate) fn push_html(out: &mut String, text: &str) -> Result<(), AllocError>
     push_escaped(out, text, Form::Html)
 }
 
-/// The same between two pieces of markup.
+/// Appends a text to the text of a page, with the escapes of HTML, between two pieces of markup. The only error is lack of memory; the
+/// text's end is then unspecified.
 #[tactic(auto, unfolding(crate::specs::Markup::element))]
 pub(crate) fn push_element(
     out: &mut String,
@@ -53,7 +54,7 @@ fn push_decimal(out: &mut String, number: u64) -> Result<(), AllocError>
     write!(out, "{number}")
 }
 
-/// Appends a section to the text of a page: its heading, and its lines, or what is said if it has none. The only error is lack of
+/// Appends a section to the text of a page: its heading, and its lines, or what is said if it has no line. The only error is lack of
 /// memory.
 #[tactic(auto, unfolding(crate::specs::Markup::section_text))]
 pub(crate) fn push_section(

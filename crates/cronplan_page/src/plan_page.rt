@@ -32,11 +32,11 @@ struct Told {
 
 /// The page of a plan: HTML in UTF-8, without a script, which loads nothing.
 ///
-/// It shows the longest windows in which nothing starts, the fullest moments, and how many starts each hour of each date has. It also
-/// shows the changes of the clock, the starts of each job and each date, and what `about` says of each job. Where the clock of a second zone is
-/// shown, what that shows stands after each time. No text of a job can end its element early. The only error is lack of memory.
+/// It shows the longest windows in which nothing starts, the fullest moments, and how many starts each hour of each date has. It also shows
+/// the changes of the clock, the starts of each job and each date, and what `about` says of each job. If a second zone is shown, what its
+/// clock shows stands after each time. No text of a job can end its element early. The only error is lack of memory.
 ///
-/// Its running time grows with the number of starts times the number of jobs and dates.
+/// Making the page takes time that grows with the number of starts times the number of jobs and dates.
 pub fn page_of(alloc: Global, view: View<'_>, about: About<'_>) -> Result<String, AllocError>
     ensures { IfOk result (λ t. IsPageText view.entry about.entry (string_bytes t)) }
 {

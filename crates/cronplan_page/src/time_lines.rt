@@ -221,7 +221,7 @@ fn count_in(starts: &[JobStart], place: usize) -> u64
     count
 }
 
-// How many starts of the job at a place an entry counts: 0 if it is of another job.
+// How many starts of the job at a place `start` counts: 0 if it is of another job.
 fn counted_at(start: JobStart, place: usize) -> u64
     ensures value { result ≡ counted_at place start }
     ensures bound { result < 2 ^ 32 }

@@ -35,8 +35,8 @@ pub(crate) fn push_clock(out: &mut String, time: ClockTime) -> Result<(), AllocE
     write!(out, "{time}")
 }
 
-/// Appends to the text of a page what the clocks show: the same, and after an equals sign what that of a second zone shows, if one is
-/// shown. The only error is lack of memory.
+/// Appends to the text of a page what the clocks show: the plan's, and after an equals sign that of a second zone, if one is shown. The
+/// only error is lack of memory.
 #[tactic(auto, unfolding(crate::specs::Words::time_text))]
 pub(crate) fn push_time(out: &mut String, time: ShownTime) -> Result<(), AllocError>
     ensures { OnOk result (string_bytes out.new ≡ string_bytes out.old ++ time_text time) }

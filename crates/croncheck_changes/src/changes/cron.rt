@@ -16,7 +16,8 @@ fn minute_of(wall: i64) -> i64
     wall.div_euclid(SECONDS_PER_MINUTE)
 }
 
-// The minute that the clock shows where cron looks at the job for a second of the range.
+// The minute that the clock shows when cron looks at the job for a second of the range: at the end
+// of the gap, or when the second is shown again.
 fn minute_there(range: Range, change: Change, second: i64) -> i64
     ensures { result ≡ minute_there range change second }
 {
@@ -34,7 +35,7 @@ fn turns_at(change: Change) -> bool
     minute_of(change.after) != minute_of(change.before - 1)
 }
 
-// Whether the minute of the second is due there, which begins with it.
+// Whether the minute of the second, with which it begins, is due when cron looks at the job.
 fn is_due_there(is_starred: bool, range: Range, change: Change, second: i64) -> bool
     requires years { IsInYears change }
     requires lies { LiesIn range change second }
@@ -45,7 +46,7 @@ fn is_due_there(is_starred: bool, range: Range, change: Change, second: i64) -> 
     due_after(is_starred, shown, minute) < minute_of(second)
 }
 
-// Whether cron starts the job there for that minute.
+// Whether cron looks at the job there, and starts it for the minute of the second.
 fn is_started_there(is_starred: bool, range: Range, change: Change, second: i64) -> bool
     requires years { IsInYears change }
     requires lies { LiesIn range change second }

@@ -13,10 +13,11 @@ const WATCHED_SECONDS: i64 = 32_140_800;
 /// Changes are told from this second on: 0001-01-03T00:00:00 UTC.
 const FIRST_WATCHED: i64 = -62_135_424_000;
 
-/// And before this one: 4999-12-30T00:00:00 UTC.
+/// Changes are told before this second: 4999-12-30T00:00:00 UTC.
 const END_WATCHED: i64 = 95_617_411_200;
 
-/// The changes after a start that are told: those of its clock's table that are watched.
+/// The changes of a start's clock that are told: those in its table after the start, up to 372 days later, and in the years that are
+/// watched. The only error is lack of memory.
 pub fn changes_after(alloc: Global, start: TableTime<'_>) -> Result<Vec<Change>, AllocError>
     ensures { IfOk result (λ changes. AreChangesFrom start.entry changes.items) }
 {

@@ -11,7 +11,7 @@ use croner::errors::CronError;
 use croner::time::table::{ClockTable, TableTime};
 use std::alloc::Global;
 
-/// So many seconds beside a range a job is looked at.
+/// How many seconds before and after a range a job is looked at: three hours.
 const SECONDS_BESIDE: i64 = 10_800;
 
 /// A clock on which each wall second is its own instant.
@@ -57,7 +57,7 @@ impl Level {
         next_from(job, &self.time_at(from))
     }
 
-    /// The first scheduled second from a wall second on, up to the one before another.
+    /// The first scheduled second from the wall second `from` on, and before `end`. `None` if there is none.
     #[tactic(auto, using(crate::proofs::LevelClock::seconds_within))]
     pub fn scheduled_within(&self, job: &Cron, from: i64, end: i64) -> Option<i64>
         requires from { IsSearched from }

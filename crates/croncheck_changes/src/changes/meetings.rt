@@ -10,7 +10,7 @@ use crate::changes::{Change, Changes, Fate, Meeting, Range};
 use croncheck_runs::runs::Runner;
 use croner::Cron;
 
-/// Of a change by so many seconds or more nothing is told: it goes to another date, and is no daylight saving.
+/// A change by this many seconds or more isn't warned of: it goes to another date, and is no daylight saving.
 const SECONDS_PER_HALF_DAY: u64 = 43_200;
 
 /// The first change that meets a job in a range.
@@ -21,12 +21,12 @@ pub struct Met {
     pub is_due_beside: bool,
 }
 
-/// What a job is told of changes of the clock after a start.
+/// What is told of a job at changes of the clock after a start.
 #[derive(Clone, Copy, Drop)]
 pub struct Meetings {
-    /// Of the first change that skips one of its seconds.
+    /// The first change that skips one of its scheduled seconds.
     pub gap: Option<Met>,
-    /// Of the first change that shows one of them twice.
+    /// The first change that shows one of them twice.
     pub repeated: Option<Met>,
 }
 
@@ -41,7 +41,7 @@ impl Meetings {
         }
     }
 
-    /// Whether there is a warning of one of them.
+    /// Whether one of the two is warned of.
     pub fn are_warned(&self) -> bool
         ensures { result ≡ are_warned self.now }
     {
@@ -49,7 +49,7 @@ impl Meetings {
     }
 }
 
-// Whether there is a warning of one that meets a job.
+// Whether a change, if one meets the job, is warned of.
 fn has_warning(met: &Option<Met>) -> bool
     ensures { result ≡ has_warning met.now }
 {
@@ -60,8 +60,8 @@ fn has_warning(met: &Option<Met>) -> bool
 }
 
 impl Met {
-    /// Whether there is a warning of it: the clock is moved by less than twelve hours, and a run is left out or made twice, with the job not due
-    /// beside the range, or the job pauses.
+    /// Whether it is warned of: the clock is moved by less than twelve hours; and either the job pauses, or a run is left out or made twice
+    /// and the job isn't due beside the range.
     pub fn is_warned(&self) -> bool
         ensures { result ≡ is_warned self.now }
     {
@@ -72,8 +72,8 @@ impl Met {
 }
 
 impl Changes<'_> {
-    /// What is told of these changes to a job, by what runs it: of the first that skips one of its scheduled seconds, and of the first that shows
-    /// one twice. A job whose hours are all named is told of them only where cron runs it and it isn't starred.
+    /// The first of these changes that skips a scheduled second of a job, and the first that shows one twice, with what becomes of that
+    /// second, which depends on what runs the job. A job that names all hours has none of them, unless cron runs it and it isn't starred.
     pub fn meetings_of(&self, job: &Cron, runner: Runner) -> Meetings
         ensures { AreMeetings self.now.start runner (job_of job.now) result }
     {
@@ -83,7 +83,7 @@ impl Changes<'_> {
         }
     }
 
-    // What is told of the first change that meets a job in a range.
+    // The first change that meets a job in a range.
     fn first_met(&self, job: &Cron, runner: Runner, range: Range) -> Option<Met>
         ensures { TellsFirst (table_moment self.now.start).zone (table_moment self.now.start).instant runner (job_of job.now) range result }
     {

@@ -18,13 +18,15 @@ impl Meeting {
         }
     }
 
-    /// Writes what happens at the change, what becomes of the second, and what to write instead.
+    /// Appends to a text what happens at the change, what becomes of the second, and what to write instead.
+    /// The only error is lack of memory; the text's end is then unspecified.
     pub fn push_text(&self, text: &mut String) -> Result<(), AllocError> {
         push_change(text, self.range, self.change)?;
         push_fate(text, self.second, self.fate)
     }
 
-    /// Writes on which date it is, and what becomes of the second, as `2027-03-28 at 03:00 in place of 02:30`.
+    /// Appends to a text on which date the change is, and what becomes of the second, as
+    /// `2027-03-28 at 03:00 in place of 02:30`. The error is as that of `push_text`.
     pub fn push_short(&self, text: &mut String) -> Result<(), AllocError> {
         match self.fate {
             Fate::Moved => {
@@ -98,7 +100,7 @@ fn push_date(text: &mut String, wall: i64) -> Result<(), AllocError> {
     }
 }
 
-/// Writes the hour and the minute of a wall second.
+/// Appends the hour and the minute of a wall second to a text. The only error is lack of memory.
 pub fn push_minute(text: &mut String, wall: i64) -> Result<(), AllocError> {
     match CivilDateTime::of_wall_second(wall) {
         Some(civil) => {

@@ -50,7 +50,7 @@ pub(super) fn verb_of(name: &str) -> Option<Verb> {
     }
 }
 
-/// The verbs that have an option which not all have, if it is one.
+/// The verbs that have this option, if not all verbs have it. `None` for any other word.
 pub(super) fn verbs_with(option: &str) -> Option<&'static str> {
     match option {
         "--zone" | "--from" => Some("check, show, plan and next"),
@@ -160,7 +160,7 @@ fn with_checking<'w>(alloc: Global, command: Command<'w>) -> Result<Command<'w>,
     with_files(alloc, command)
 }
 
-// With the forms in which is told what is found.
+// With the forms in which findings are told.
 fn with_format<'w>(alloc: Global, command: Command<'w>) -> Result<Command<'w>, AllocError> {
     let format = value(alloc, "format", "FORM")
         .short('f')

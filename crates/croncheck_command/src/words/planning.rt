@@ -7,7 +7,7 @@ use cronplan_forms::{FileAsked, PlanAsked, Questions, Signs};
 use jiff_fmt::friendly::parse_unsigned_duration;
 use std::alloc::{AllocError, Global};
 
-/// How many starts on a day a job has at most that answers are about, where no word says it.
+/// The most starts that a job may have on a day for answers to be about it, if no word says it.
 const MOST_A_DAY: u64 = 12;
 
 /// The word for jobs that start however often.
@@ -16,7 +16,8 @@ const ALL: &str = "all";
 /// The most moments that are asked for.
 const MOST_MOMENTS: usize = 1_000;
 
-/// What is asked of a plan, with its verb; with another one nothing is. The signs of a picture are digits.
+/// What is asked of a plan, with [`Verb::Plan`]; nothing with another verb. The signs of a picture are
+/// digits.
 pub(super) fn plan_asked(
     alloc: Global,
     verb: Verb,
@@ -113,7 +114,7 @@ fn busy_count(alloc: Global, matches: &ArgMatches<'_>) -> Result<Option<usize>, 
     }
 }
 
-// How many starts on a day a job has at most that the answers are about.
+// The most starts that a job may have on a day for the answers to be about it.
 fn most_a_day(alloc: Global, matches: &ArgMatches<'_>) -> Result<Option<u64>, NoCall> {
     match matches.get_str("most-a-day") {
         Some(ALL) => Ok(None),

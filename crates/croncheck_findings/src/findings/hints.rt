@@ -1,7 +1,7 @@
 //! What to write in place of a field that cron doesn't take.
 //!
-//! Of the first part of the field that cron doesn't take, croner's parser says why it refuses it, as data; the words here say of that
-//! what holds for cron too. What another program's line may have been meant as is told first.
+//! Croner's parser says, as data, why it refuses the first part of the field that cron doesn't take; the words here say so much of that
+//! as holds for cron too. If the line looks like one of another program, what it may have been meant as is told first.
 
 use super::reasons::{reason_of, words_of_cron};
 use croncheck_output::front::{COMMAND_BYTES, push_front};
@@ -14,8 +14,8 @@ use crontab::line::Fault;
 use std::alloc::{AllocError, Global};
 use std::fmt;
 
-/// Puts after a text why cron refuses a field: its own words, the part of the list that it doesn't take, what is wrong there, and what to
-/// write. Where nothing of this is known, it is which values the field takes.
+/// Appends to a text why cron refuses a field: cron's own words, the part of the list that it doesn't take, what is wrong there, and what
+/// to write. Where nothing of this is known, it says which values the field takes.
 pub(super) fn push_hint(
     alloc: Global,
     text: &mut String,
@@ -128,7 +128,7 @@ fn words_of_another(fault: Fault, line: &[u8], field: &[u8], part: &[u8]) -> Opt
     }
 }
 
-// Of the first word of a line.
+// The same of the first word of a line.
 fn words_of_first(line: &[u8], word: &[u8]) -> Option<&'static str> {
     if is_one_of(word, &["export", "set", "setenv", "declare"]) {
         return Some(
@@ -177,7 +177,7 @@ fn is_name_of_setting(word: &[u8]) -> bool {
         .all(|byte| byte.is_ascii_uppercase() || *byte == b'_')
 }
 
-// Of a part of any field.
+// The same of a part of any field.
 fn words_of_part(line: &[u8], part: &[u8]) -> Option<&'static str> {
     if is_word(part, "?") {
         return Some(if has_year(line) {
@@ -243,7 +243,7 @@ fn field_of(fault: Fault) -> PatternField {
     }
 }
 
-// Why croner's parser refuses a part of a field, which stands alone in a pattern; nothing where it takes it, or refuses another field.
+// Why croner's parser refuses a part of a field, which stands alone in a pattern. `None` if it takes the part, or refuses another field.
 fn fault_in(alloc: Global, fault: Fault, part: &[u8]) -> Result<Option<PatternFault>, AllocError> {
     let Ok(part) = std::str::from_utf8(part) else {
         return Ok(None);
@@ -339,7 +339,7 @@ impl fmt::Display for Stepped {
 
 // ---- nicknames
 
-/// What a nickname that is none may have been meant as. Its words say what to write.
+/// What a word that looks like a nickname, and is none, may have been meant as. Its text says what to write.
 #[derive(Clone, Copy)]
 pub(super) enum Meant {
     /// A blank stands after the `@`.

@@ -13,7 +13,7 @@ use std::alloc::{AllocError, Global};
 /// What is found of a file of so many lines as a whole: that cron passes over it for its name, a warning; or why cron ignores it, an
 /// error for each reason. Nothing is found of a file of patterns, which cron doesn't read.
 ///
-/// The only error is want of memory.
+/// The only error is lack of memory.
 pub fn findings_of_file(
     alloc: Global,
     dialect: Dialect,
@@ -146,7 +146,7 @@ fn reason(alloc: Global, name: &'static str, why: &str) -> Result<Finding, Alloc
     })
 }
 
-/// Where what is found of a file of so many lines is told: its last line, and line 1 where it has none.
+/// The line at which the findings of a file of so many lines are told: its last line, or line 1 if it has none.
 pub fn last_line(lines: u64) -> u64
     ensures { result ≡ last_line lines }
 {

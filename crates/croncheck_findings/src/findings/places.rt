@@ -42,7 +42,8 @@ pub(crate) fn place_of(line: &[u8], times: &[u8], field: Option<PatternField>) -
     }
 }
 
-// The place of a field. Where white space of Unicode may stand between the fields it is that of the times.
+// The place of a field. If white space of Unicode may stand between the fields, it is the place of the
+// times.
 fn place_of_field(line: &[u8], times: &[u8], field: PatternField) -> Extent
     ensures { result ≡ place_of line.now times.now (Some field) }
 {
@@ -92,7 +93,7 @@ fn next(text: &[u8]) -> &[u8]
     rest
 }
 
-// Times have six words or more.
+// Whether times have six words or more.
 fn has_seconds(times: &[u8]) -> bool
     ensures { result ≡ has_seconds times.now }
 {

@@ -14,7 +14,7 @@ use std::alloc::{AllocError, Global};
 
 /// The annotation of a finding at a place: a line with its line feed.
 ///
-/// The only error is want of memory.
+/// The only error is lack of memory.
 pub fn annotation(
     alloc: Global,
     style: Style,

@@ -5,9 +5,9 @@ ghost use Rattle.croncheck_forms.specs.Annotations.{message_escape, property_esc
 
 use std::alloc::{AllocError, Global};
 
-/// Bytes as they stand in the value of a property of a command, or else in its message.
+/// Bytes as they stand in the value of a property of a command, if `is_property`, or else in its message.
 ///
-/// None of them ends the command's line; none in a property ends its value. The only error is want of memory.
+/// None of them ends the command's line; none in a property ends its value. The only error is lack of memory.
 pub fn escape(alloc: Global, bytes: &[u8], is_property: bool) -> Result<Vec<u8>, AllocError>
     ensures value { IfOk result (λ text. text.items ≡ escaped_bytes is_property bytes.now) }
     ensures closed { IfOk result (λ text. IsTrue (list_all (ends_nothing is_property) text.items)) }
@@ -17,9 +17,10 @@ pub fn escape(alloc: Global, bytes: &[u8], is_property: bool) -> Result<Vec<u8>,
     Ok(text)
 }
 
-/// Puts bytes after a line, as they stand in the value of a property, or else in the message.
+/// Appends bytes to a line, as they stand in the value of a property, if `is_property`, or else in the
+/// message.
 ///
-/// None of them ends the command's line; none in a property ends its value. The only error is want of memory.
+/// None of them ends the command's line; none in a property ends its value. The only error is lack of memory.
 pub fn push_escaped(line: &mut Vec<u8>, bytes: &[u8], is_property: bool) -> Result<(), AllocError>
     ensures { OnOk result (line.new.items ≡ line.old.items ++ escaped_bytes is_property bytes.now) }
 {

@@ -14,7 +14,7 @@ pub struct Columns {
     pub end: u64,
 }
 
-/// The columns of a place, where it is one of a line that is UTF-8.
+/// The columns of a place in a line. `None` if there is no line, or it isn't UTF-8.
 pub fn columns_at(line: Option<&[u8]>, extent: Extent) -> Option<Columns>
     ensures { AreColumns (option_map (λ l. l.now) line.entry) extent result }
 {

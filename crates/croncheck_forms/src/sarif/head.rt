@@ -10,12 +10,12 @@ use super::rules::Rule;
 use serde_json::{Value, json};
 use std::alloc::{AllocError, Global};
 
-/// Where it is said what cron makes of a line.
+/// The page that says what cron makes of a line.
 const HELP_URI: &str = "https://manpages.debian.org/cron/crontab.5";
 
 /// What stands in front of the results, for a version of this program with these rules.
 ///
-/// The only error is want of memory.
+/// The only error is lack of memory.
 pub fn head_text(alloc: Global, version: &str, rules: &[Rule]) -> Result<String, AllocError>
     ensures { IfOk result (λ text. string_bytes text ≡ head_text version.now rules.now) }
 {

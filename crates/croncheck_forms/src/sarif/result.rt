@@ -12,7 +12,7 @@ use std::alloc::{AllocError, Global};
 
 /// The text of the result of a finding at a line of a file.
 ///
-/// The only error is want of memory.
+/// The only error is lack of memory.
 pub fn result_text(
     alloc: Global,
     file: &str,

@@ -4,9 +4,10 @@ ghost use Rattle.croncheck_forms.specs.Sarif.{is_uri_byte, hex_digit, uri_byte, 
 
 use std::alloc::{AllocError, Global};
 
-/// The name of a file as a relative URI: a byte other than a letter, a digit, one of `-._~` or a slash stands as `%20`.
+/// The name of a file as a relative URI. A byte other than a letter, a digit, one of `-._~` or a slash stands by its
+/// value, as `%20`.
 ///
-/// The only error is want of memory.
+/// The only error is lack of memory.
 pub fn uri_of(alloc: Global, name: &str) -> Result<String, AllocError>
     ensures { IfOk result (λ uri. string_bytes uri ≡ uri_of name.now) }
 {

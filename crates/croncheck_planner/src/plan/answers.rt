@@ -20,8 +20,8 @@ use std::alloc::{AllocError, Global};
 use std::io;
 use std::io::{ErrorKind, Write};
 
-/// Writes what a plan of jobs answers, of which this was found: whose its starts are, what it leaves out, and under the name of each zone that
-/// is shown the answers on its clock.
+/// Writes what a plan of jobs answers, given what was found of them: whose the starts are, what the plan leaves out, and under the name of
+/// each zone that is shown the answers on its clock.
 pub(crate) fn write_answers<W: Write>(
     terms: &Terms<'_, '_>,
     names: &ClockNames,
@@ -269,7 +269,7 @@ fn unfollowed_text(alloc: Global, name: &str) -> Result<String, AllocError>
     format!(in alloc; "the clock of {name} isn't followed in these days\n")
 }
 
-/// What was found of these jobs, as the forms of a plan have it, in a zone of this name.
+/// What was found of these jobs, as the forms of a plan take it, with this name of the zone.
 pub(crate) fn view_of<'v>(
     terms: &Terms<'v, 'v>,
     zone: &'v str,
@@ -294,7 +294,7 @@ pub(crate) fn view_of<'v>(
     }
 }
 
-/// The jobs of a plan, as its forms have them. The only error is want of memory.
+/// The jobs of a plan, as its forms take them. The only error is lack of memory.
 pub(crate) fn jobs_of<'p>(alloc: Global, jobs: &'p [Planned]) -> Result<Vec<Job<'p>>, AllocError>
     ensures { IfOk result (λ told. jobs_told told.items ≡ jobs_planned jobs.now) }
 {

@@ -31,7 +31,8 @@ pub(crate) fn other_table(
     }
 }
 
-/// What was found of these jobs, by the names of the zones, with that clock beside it.
+/// What was found of these jobs, with the names of the zones, and beside it the clock of the second
+/// one, if that is shown.
 pub(crate) fn view_beside<'v>(
     terms: &Terms<'v, 'v>,
     names: &'v ClockNames,

@@ -11,8 +11,8 @@ use cronplan_forms::Dropped;
 use cronplan_jobs::Schedule;
 use std::alloc::{AllocError, Global};
 
-/// The jobs that have a warning of the first change that skips one of their seconds: what is skipped isn't made up for. The only error is
-/// want of memory.
+/// The jobs that are warned of the first change that skips one of their seconds, since what is skipped isn't made up for. The only error
+/// is lack of memory.
 pub(crate) fn dropped_of(
     alloc: Global,
     settings: &Settings<'_>,

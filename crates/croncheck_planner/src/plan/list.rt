@@ -22,7 +22,8 @@ use std::alloc::{AllocError, Global};
 use std::io;
 use std::io::Write;
 
-/// Writes the list of what was found of these jobs: whose its starts are, these in order, and how it ends.
+/// Writes the list of what was found of these jobs: whose the starts are, the starts in order, and how the
+/// list ends.
 pub(crate) fn write_list<W: Write>(
     terms: &Terms<'_, '_>,
     front: &str,
@@ -90,7 +91,7 @@ fn is_pattern(job: &Schedule) -> bool
     }
 }
 
-/// What stands in front of the starts of a plan: whose they are, where there are any.
+/// What stands in front of the starts of a plan: whose they are, if there are any.
 pub(crate) fn head_text(front: &str, is_empty: bool) -> &str
     ensures { result.now ≡ head_text front.now is_empty }
 {
@@ -170,7 +171,7 @@ fn push_below(text: &mut String, other: &str, line: &str) -> Result<(), AllocErr
     text.push_str(line)
 }
 
-// What the zone's clock shows at a second, and the second; nothing where the table hasn't it.
+// What the zone's clock shows at a second, and the second; nothing if the table doesn't have it.
 fn clock_text(
     alloc: Global,
     shared: &Shared<'_>,

@@ -9,10 +9,10 @@ use crontab::bytes::{Kind, cut, trim_end};
 use crontab::line::{Entry, Job, word};
 use std::alloc::{AllocError, Global};
 
-/// The title that a line gives to the next one: the text of a comment, and no title where the line is none. `None` where the line is a comment
+/// The title that a line gives to the next one: the text of a comment, or an empty one if the line isn't a comment. `None` for a comment
 /// that allows something: it leaves the title of the comment above it.
 ///
-/// The only error is want of memory.
+/// The only error is lack of memory.
 pub(crate) fn heading_of(
     alloc: Global,
     entry: &Entry<'_>,
@@ -71,9 +71,9 @@ fn is_hash(byte: u8) -> bool
     byte == b'#'
 }
 
-/// The title of the job of a line, above which this stands: that, where there is any; else the last part of the path of its command's first
-/// word; and its times where it has no command, or where that word has a `=`, since a variable may be set to a password. A pattern is its own
-/// title.
+/// The title of the job of a line. It is the title `above` the line, if there is one; else the last part of the path that is the first word
+/// of the command. If there is no command, or that word has a `=`, since a variable may be set to a password, it is the job's times. A
+/// pattern is its own title.
 pub(crate) fn title_of<'l>(above: &'l [u8], entry: &Entry<'l>) -> &'l [u8]
     ensures { result.now ≡ title_of above.now (entry_seen entry.now) }
 {

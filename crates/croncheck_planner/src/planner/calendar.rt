@@ -12,7 +12,7 @@ use cronplan_forms::{MOST_EVENTS, Naming, plan_calendar};
 #[derive(Drop)]
 pub struct PlanFile {
     pub text: String,
-    /// It has fewer events than the plan has starts.
+    /// Whether it has fewer events than the plan has starts.
     pub is_cut: bool,
 }
 

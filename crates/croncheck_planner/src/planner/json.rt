@@ -10,7 +10,8 @@ use croner::errors::CronError;
 use cronplan_json::plan_json;
 
 impl Planner {
-    /// The plan as JSON, by this planner's names of the zones: a line with the object that `cronplan_json::plan_json` makes.
+    /// The plan as JSON, with this planner's names of the zones: the object that `cronplan_json::plan_json` makes, as a
+    /// line.
     ///
     /// The only error is `OutOfMemory`, as that of `answered_plan`.
     pub fn json<'p>(&'p self, terms: &'p Terms<'p, 'p>) -> Result<String, CronError>

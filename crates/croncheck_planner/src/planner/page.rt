@@ -32,8 +32,8 @@ use std::alloc::{AllocError, Global};
 use std::io;
 use std::io::Write;
 
-/// Takes the jobs of files for a page, with what is found of the line of each. Of a line without a job in the plan it writes what is wrong, by
-/// its place: never more of the line than the bytes at fault.
+/// Takes the jobs of files for a page, with what is found of the line of each. Of a line without a job in the plan it writes its place and
+/// what is wrong there, never with more of the line than the bytes at fault.
 #[derive(Drop)]
 pub struct PagePlanner {
     planner: Planner,
@@ -42,7 +42,7 @@ pub struct PagePlanner {
 }
 
 impl PagePlanner {
-    /// It knows no job yet, but what the zones are called.
+    /// A planner that has no job yet, and knows the names of the zones.
     pub fn new(alloc: Global, asked: PlanAsked, names: ClockNames) -> PagePlanner
         ensures jobs { (result.planner.schedules.items ≡ []) × (result.planner.jobs.items ≡ []) }
         ensures found { result.found.items ≡ [] }
@@ -55,8 +55,8 @@ impl PagePlanner {
         }
     }
 
-    /// The page of the plan, by this planner's names of the zones, without the jobs that start too often, but for their names and counts: as
-    /// `cronplan_page::page_of` has it, with the warnings of each job. These texts are told of what cron ignores.
+    /// The page of the plan as `cronplan_page::page_of` makes it, with this planner's names of the zones and the warnings of each job. Of
+    /// the jobs that start too often it has only the names and counts. `ignored` is what the page says that cron ignores.
     ///
     /// The only error is `OutOfMemory`, as that of `answered_plan`.
     pub fn page<'p>(
@@ -84,7 +84,8 @@ impl PagePlanner {
         Ok(text)
     }
 
-    // Takes the job of a line at a place, of whose times the parser makes this, if it has one that is planned: whether it has.
+    // Takes the job of a line at a place, if it has one that is planned, and returns whether it has. `outcome` is what the parser makes of
+    // its times.
     fn take_job(
         &mut self,
         terms: &Terms<'_, '_>,
@@ -114,7 +115,7 @@ impl PagePlanner {
         }
     }
 
-    // Keeps what was found of a line whose job is planned, and writes it of any other.
+    // Keeps what was found of a line whose job is planned; for any other line, writes it.
     fn tell<W: Write>(
         &mut self,
         terms: &Terms<'_, '_>,
@@ -195,7 +196,7 @@ impl Form for PagePlanner {
     }
 }
 
-// The same, with one run of a job alone: nothing is told of its runs.
+// The same settings, but with one run of each job alone: nothing is told of its runs.
 fn brief_of<'t>(settings: &Settings<'t>) -> Settings<'t>
     ensures { result ≡ brief_of settings.now }
 {

@@ -9,10 +9,11 @@ use crontab::bytes::{Kind, cut, is_of, rest_of};
 use crontab::line::{Entry, word};
 use std::alloc::{AllocError, Global};
 
-/// The names that the line of an entry allows to those after it: those of a comment that allows something, and none where it
-/// is neither a comment nor blank. `None` where it says nothing of them.
+/// The names of warnings that a line allows for the lines after it: those in the list of a comment that allows something,
+/// and no names for a job, a pattern, a setting or a refused line. `None` for a blank line or another comment, which leaves
+/// what was allowed before.
 ///
-/// The only error is want of memory.
+/// The only error is lack of memory.
 pub fn names_by(
     alloc: Global,
     entry: &Entry<'_>,
@@ -38,7 +39,7 @@ fn names_of_comment(alloc: Global, line: &[u8]) -> Result<Option<Vec<&'static st
     }
 }
 
-/// The first name of a comment's list that no warning has, if there is one.
+/// The first name in the list of a comment that no warning has, if there is one.
 pub(crate) fn unknown_name_in(line: &[u8]) -> Option<&[u8]>
     ensures { option_map (λ name. name.now) result ≡ unknown_name_in line.now }
 {
@@ -48,7 +49,7 @@ pub(crate) fn unknown_name_in(line: &[u8]) -> Option<&[u8]>
     }
 }
 
-/// The list of a comment that allows something.
+/// The list of a comment that allows something: what stands after `# croncheck: allow`. `None` for another comment.
 pub fn list_in(line: &[u8]) -> Option<&[u8]>
     ensures { option_map (λ list. list.now) result ≡ list_in line.now }
 {
@@ -84,7 +85,7 @@ fn known_names() -> &'static [&'static str]
     &ALLOWABLE
 }
 
-// Of some names those that a list has.
+// Those of some names that a list has.
 fn names_among(
     alloc: Global,
     list: &[u8],

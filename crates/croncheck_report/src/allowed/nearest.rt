@@ -5,7 +5,8 @@ use croncheck_output::front::{COMMAND_BYTES, push_front};
 use std::alloc::{AllocError, Global};
 use strsim::levenshtein;
 
-/// Writes that no warning has this name, and which name is nearest to it.
+/// Appends to a text that no warning has this name, and which name is nearest to it. The only error is lack of memory; the
+/// text's end is then unspecified.
 pub fn push_unknown(alloc: Global, text: &mut String, name: &[u8]) -> Result<(), AllocError> {
     text.push_str("No warning that may be allowed has the name ")?;
     push_front(text, name, COMMAND_BYTES)?;
@@ -13,7 +14,8 @@ pub fn push_unknown(alloc: Global, text: &mut String, name: &[u8]) -> Result<(),
     write!(text, "; the nearest is {nearest}.")
 }
 
-/// Of the names of warnings the one that the fewest changes of a letter make of this one, the first where several are as near.
+/// The name of a warning that is nearest to this name, by the number of letters to change; the first one if several are as
+/// near. The only error is lack of memory.
 pub fn nearest_name(alloc: Global, name: &[u8]) -> Result<&'static str, AllocError> {
     let text = std::str::from_utf8(name).unwrap_or("");
     let (mut nearest, mut fewest) = (0, usize::MAX);

@@ -21,8 +21,8 @@ pub fn skipped_in(table: &ClockTable) -> u64
     skipped
 }
 
-/// How many seconds a clock skips at a change, which is an instant and the seconds that it is ahead of UTC from then on; before it was so
-/// many seconds ahead.
+/// How many seconds a clock skips at a change: until its instant the clock is `before` seconds ahead of UTC, and from then on as many as
+/// stand beside the instant.
 pub fn skipped_at(before: i32, change: (i64, i32)) -> u64
     ensures value { result ≡ Table.gap_at before change }
     ensures bound { result ≤ 4_294_967_295 }

@@ -6,7 +6,7 @@ use crate::length::Length;
 use jiff::Timestamp;
 use std::fmt;
 
-/// Up to the second before this one a window is calm, and with this one it isn't: searches don't go over it.
+/// The first second with which a clock's window is no longer calm: searches don't go over it.
 #[derive(Clone, Copy, Drop)]
 pub struct Stop {
     /// In seconds since 1970-01-01T00:00:00 UTC.
@@ -19,17 +19,17 @@ pub struct Stop {
 /// Why searches don't go over a second of a zone's clock.
 #[derive(Clone, Copy, Drop)]
 pub enum Reason {
-    /// There it is so many seconds ahead of UTC, more than a day; behind UTC where the number is negative.
+    /// The clock is this many seconds ahead of UTC there, which is more than a day; behind UTC if the number is negative.
     Far(i32),
-    /// There it goes forward by so many seconds, more than a day.
+    /// The clock goes forward there by this many seconds, which is more than a day.
     Forward(i64),
-    /// There it goes back by so many seconds, more than two hours.
+    /// The clock goes back there by this many seconds, which is more than two hours.
     Back(i64),
-    /// It changes there, and has changed within the two days before.
+    /// The clock changes there, and has changed within the two days before.
     Soon,
-    /// None of these: with the change there it has skipped more than 20,000,000 seconds in all.
+    /// None of these: with the change there the clock has skipped more than 20,000,000 seconds in all.
     Skipped,
-    /// None of these: with the change there it has changed more than 20,000 times.
+    /// None of these: with the change there the clock has changed more than 20,000 times.
     Many,
 }
 

@@ -1,11 +1,12 @@
-//! What a job is told of changes of the clock.
+//! What is told of a job at changes of the clock.
 
 use croncheck_changes::changes::Meeting;
 use croncheck_changes::changes::meetings::Met;
 use croncheck_report::report::JobReport;
 use std::alloc::AllocError;
 
-// What cron makes of a crontab's job at the next changes that meet it, the nearer one first. Where there is a warning of one, that says it.
+// What cron makes of a crontab's job at the next changes that meet it, the nearer one first. A change that is warned of is left to its
+// warning.
 pub(crate) fn push_next_changes(
     text: &mut String,
     job: &JobReport<'_, '_>,

@@ -11,10 +11,10 @@ use croncheck_report::report::Report;
 use std::alloc::{AllocError, Global};
 use unicode_width::UnicodeWidthStr;
 
-/// The text of what is found of a line: whole lines, or nothing where nothing is found. Of a job it has no description and
-/// no runs.
+/// The text of what is found of a line: whole lines, or nothing where nothing is found. It doesn't have the description or
+/// the runs of a job.
 ///
-/// The line is given without its line feed. The error comes where memory is lacking.
+/// The line is given without its line feed. The only error is lack of memory.
 #[tactic(auto, using(crate::proofs::Found::is_finding))]
 pub fn finding_of(
     alloc: Global,

@@ -81,7 +81,7 @@ fn reach_text(language: Tongue, reach: Reach) -> &'static str {
     }
 }
 
-// What stands in front of that: where the rest of the span isn't counted, that it holds of the starts that are.
+// What stands in front of the most on one day: if the rest of the span isn't counted, that it holds for the starts that are.
 fn front_of_most(language: Tongue, reach: Reach) -> &'static str {
     match (language, reach) {
         (_, Reach::Whole) => ": ",
@@ -90,7 +90,7 @@ fn front_of_most(language: Tongue, reach: Reach) -> &'static str {
     }
 }
 
-// How many there are on one day at most.
+// How many starts there are on one day at most.
 fn push_most(text: &mut String, language: Tongue, most: u64) -> Result<(), AllocError> {
     match language {
         Tongue::English => write!(text, "at most {most} on one day"),
@@ -98,7 +98,7 @@ fn push_most(text: &mut String, language: Tongue, most: u64) -> Result<(), Alloc
     }
 }
 
-// How far they are apart at least: what is shorter than the units that are told is left out.
+// How far the starts are apart at least. What is shorter than the units that are told is left out.
 fn push_shortest(text: &mut String, language: Tongue, shortest: u64) -> Result<(), AllocError> {
     let lasting = Lasting { seconds: shortest };
     match (language, shortest) {

@@ -15,7 +15,7 @@ use std::alloc::{AllocError, Global};
 
 /// The text of the report of a pattern, whole lines: what it means, its runs and its warnings, or why it is refused. No place stands in front.
 ///
-/// The error comes where memory is lacking.
+/// The only error is lack of memory.
 pub fn runs_text(
     alloc: Global,
     look: Look,
@@ -33,7 +33,8 @@ pub fn runs_text(
     Ok(text)
 }
 
-/// The same of what it means alone, with what another program makes otherwise, or why it is refused.
+/// The text of what a pattern means, whole lines, with what another program reads differently; or why the pattern is refused. The only
+/// error is lack of memory.
 pub fn description_text(
     alloc: Global,
     look: Look,

@@ -72,7 +72,7 @@ pub(crate) fn push_starts(text: &mut String, run: &Run<'_>) -> Result<(), AllocE
     push_made_up(text, run)
 }
 
-/// Puts after a text what another zone's clock shows at a second, if it is to be shown.
+/// Appends to a text what another zone's clock shows at a second, if such a zone is to be shown. The only error is lack of memory.
 pub fn push_other_clock(
     text: &mut String,
     shared: &Shared<'_>,

@@ -16,7 +16,7 @@ pub fn has_no_command(command: &[u8]) -> bool
     left.is_empty() || begins_with(text, b'#')
 }
 
-/// Whether a text begins with a word that may be a field of weekdays, and with no comment.
+/// Whether a text begins with a word that may be a field of weekdays, and not as a comment does.
 pub fn looks_like_field(text: &[u8]) -> bool
     ensures { result ≡ looks_like_field text.now }
 {
@@ -30,7 +30,7 @@ fn is_no_user_sign(byte: u8) -> bool
     byte == b'/' || byte == b'=' || byte == b'$' || byte == b'*' || byte == b','
 }
 
-/// Whether a word has a sign that no user's name has.
+/// Whether a word has a character that no user's name has.
 pub fn has_no_user_sign(name: &[u8]) -> bool
     ensures { result ≡ has_no_user_sign name.now }
 {
@@ -49,9 +49,9 @@ pub fn begins_with_root(command: &[u8]) -> bool
 #[derive(Clone, Copy)]
 enum Met {
     Plain,
-    /// A backslash, which takes in the byte after it.
+    /// A backslash, which escapes the byte after it.
     Backslash,
-    /// A percent sign that no backslash took in.
+    /// A percent sign that no backslash escapes.
     Percent,
 }
 
@@ -74,7 +74,7 @@ fn met_in(command: &[u8]) -> Met
         .fold(Met::Plain, |met, byte| met_next(met, *byte))
 }
 
-/// Whether a command has a percent sign that no backslash takes in.
+/// Whether a command has a percent sign that no backslash escapes.
 pub fn has_percent(command: &[u8]) -> bool
     ensures { result ≡ has_percent command.now }
 {
@@ -95,7 +95,7 @@ fn backslashes_at_end(command: &[u8]) -> usize
         .count()
 }
 
-/// Whether a command ends in a backslash that no other takes in.
+/// Whether a command ends in a backslash that no other backslash escapes.
 pub fn is_continued(command: &[u8]) -> bool
     ensures { result ≡ is_continued command.now }
 {

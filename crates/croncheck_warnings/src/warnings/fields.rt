@@ -17,11 +17,11 @@ use crontab::list::{is_uneven, names_nothing, parts_of};
 use crontab::notes;
 use std::alloc::{AllocError, Global};
 
-/// Up to this step of seconds or minutes a job runs four times in a minute or an hour, or more often.
+/// Up to this step of the seconds or minutes a job runs at least four times in a minute or an hour.
 const LONGEST_SHORT_STEP: u64 = 15;
 
-/// The texts of the fields of a job or a pattern, as they are written. Where there are no seconds they are `0`, and where there are no years
-/// `*`.
+/// The texts of the fields of a job or a pattern, as they are written. If there are no seconds, they are `0`; if there are no years, they
+/// are `*`.
 #[derive(Clone, Copy)]
 pub struct Fields<'l> {
     pub seconds: &'l [u8],
@@ -33,7 +33,7 @@ pub struct Fields<'l> {
     pub years: &'l [u8],
 }
 
-/// The fields of a job's times as they are written. A nickname has none.
+/// The fields of a job's times as they are written. `None` for a nickname.
 pub fn fields_of_schedule(schedule: &[u8]) -> Option<Fields<'_>>
     ensures { option_map fields_seen result ≡ fields_of_schedule schedule.now }
 {
@@ -63,7 +63,7 @@ fn fields_of_five(text: &[u8]) -> Fields<'_>
     }
 }
 
-/// The fields of a pattern as they are written, where it has five to seven words.
+/// The fields of a pattern as they are written. `None` unless it has five to seven words. The only error is lack of memory.
 pub fn fields_of_pattern(alloc: Global, text: &str) -> Result<Option<Fields<'_>>, AllocError>
     ensures { IfOk result (λ fields. AreFieldsOfPattern text.now (option_map fields_seen fields)) }
 {
@@ -174,7 +174,7 @@ fn has_long_step(field: PatternField, parts: &[Part]) -> bool
     }
 }
 
-// Whether a range names its first value alone, since the second is past its end.
+// Whether a range names its first value alone, since the next one is past its end.
 fn is_beyond(part: &Part) -> bool
     ensures { result ≡ is_beyond part.now }
 {
@@ -240,8 +240,8 @@ impl<'l> Fields<'l> {
         }
     }
 
-    /// Whether seconds, minutes or hours are `*/n`, n is below 60, 60 or 24 and doesn't divide it, and of seconds or minutes it is above 15.
-    /// The only error is `OutOfMemory`.
+    /// Whether this field is that of the seconds, minutes or hours and is `*/n`, where n is below 60, 60 or 24 and doesn't divide that
+    /// number, and for seconds and minutes is above 15. The only error is `OutOfMemory`.
     pub fn has_uneven_step(&self, alloc: Global, field: PatternField) -> Result<bool, CronError>
         ensures ok { IfOk result (λ yes. yes ≡ has_uneven_step field (fields_seen self.now)) }
         ensures err { IfErr result (λ e. e ≡ CronError.OutOfMemory) }
@@ -291,7 +291,7 @@ impl<'l> Fields<'l> {
         notes::has_large_number(bounds_of_field(field), self.text_of(field))
     }
 
-    /// Whether a word of a field is a name, and none of this field.
+    /// Whether a word of a field is the name of a month or of a weekday, and not a name of this field.
     pub fn has_other_name(&self, field: PatternField) -> bool
         ensures { result ≡ has_other_name field (fields_seen self.now) }
     {

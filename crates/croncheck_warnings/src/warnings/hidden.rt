@@ -5,7 +5,7 @@ ghost use Rattle.croncheck_warnings.specs.Hidden.{is_control, is_hiding, begins_
 use super::command::has_carriage_return;
 use crontab::bytes::rest_of;
 
-/// The first byte of these characters in UTF-8.
+/// The first byte in UTF-8 of the characters that nobody sees or that turn the order.
 const FIRST: u8 = 0xe2;
 
 fn is_control(byte: u8) -> bool
@@ -63,7 +63,7 @@ fn without_return(text: &[u8]) -> &[u8]
     front
 }
 
-/// The same, where a carriage return at the end of the text doesn't count.
+/// The same as `has_hidden`, but that a carriage return at the end of the text doesn't count.
 pub fn has_hidden_within(text: &[u8]) -> bool
     ensures { result ≡ has_hidden_within text.now }
 {

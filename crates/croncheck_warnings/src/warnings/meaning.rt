@@ -26,7 +26,7 @@ const MONTHS: usize = 12;
 
 const FEBRUARY: u16 = 2;
 
-/// The day of February that leap years alone have.
+/// The day of February that only leap years have.
 const LEAP_DAY: u16 = 29;
 
 fn is_plain(field: &CronComponent, value: u16) -> bool
@@ -104,14 +104,14 @@ fn is_without(day: u16, year: u16, month: u16) -> bool
     length(year, month) < day
 }
 
-// Whether a day is wanting in one of some months of a year.
+// Whether a day is missing in one of some months of a year.
 fn is_wanting_in(day: u16, year: u16, months: &[u16]) -> bool
     ensures { result ≡ list_any (is_without day year) months.now }
 {
     months.iter().any(|month| is_without(day, year, *month))
 }
 
-// Whether a day is wanting in one of some months of one of some years.
+// Whether a day is missing in one of some months of one of some years.
 fn is_wanting(years: &[u16], months: &[u16], day: u16) -> bool
     ensures { result ≡ is_wanting years.now months.now day }
 {
@@ -124,14 +124,14 @@ fn all_late(days: &[u16]) -> bool
     days.iter().all(|day| LEAST_DAYS < *day)
 }
 
-// Whether one of some days is wanting in one of some months of one of some years.
+// Whether one of some days is missing in one of some months of one of some years.
 fn is_some_wanting(days: &[u16], years: &[u16], months: &[u16]) -> bool
     ensures { result ≡ list_any (is_wanting years.now months.now) days.now }
 {
     days.iter().any(|day| is_wanting(years, months, *day))
 }
 
-// Whether each of some days lies above 28, and one is wanting in one of some months of one of some years.
+// Whether each of some days is above 28, and one of them is missing in one of some months of one of some years.
 fn are_late(days: &[u16], years: &[u16], months: &[u16]) -> bool
     ensures { result ≡ are_late days.now years.now months.now }
 {
@@ -154,7 +154,8 @@ fn is_leap_day(days: &[u16], months: &[u16]) -> bool
     is_only(LEAP_DAY, days) && is_only(FEBRUARY, months)
 }
 
-/// Whether each named day lies above 28, a named month of a named year lacks one, and not February 29 alone is named.
+/// Whether each named day is above 28, and one of them is missing in some named month of a named year; not where
+/// February 29 alone is named.
 ///
 /// The only error is `OutOfMemory`.
 pub fn has_short_months(job: &Cron) -> Result<bool, CronError>

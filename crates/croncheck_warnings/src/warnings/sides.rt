@@ -1,4 +1,4 @@
-//! The days of a month that each day field names by itself, for what `either-day` tells.
+//! The days of a month that each day field names by itself, which `either-day` tells.
 ghost use Rattle.std.specs.Prelude.{◌≡◌, not, true, IfOk, IfErr};
 ghost use Rattle.std.specs.Int.{IsInRange};
 ghost use Rattle.croner_base.specs.Civil.{weekday_index};
@@ -28,7 +28,8 @@ pub struct Month {
     pub first: Weekday,
 }
 
-/// The days that each day field names by itself in a month of so many days, whose first has this weekday. The other fields aren't looked at.
+/// The days that each day field names by itself in a month of `length` days that begins with the weekday `first`. The other fields aren't
+/// looked at.
 ///
 /// The only error is `OutOfMemory`.
 pub fn sides_of(job: &Cron, length: u32, first: Weekday) -> Result<Sides, CronError>
@@ -68,7 +69,7 @@ pub struct Dates {
     pub sides: Sides,
 }
 
-/// The days that each day field of a job names by itself in the month of a date, which has this weekday.
+/// The days that each day field of a job names by itself in the month of a date; `weekday` is the weekday of that date.
 ///
 /// The only error is `OutOfMemory`.
 pub fn dates_in_month_of(job: &Cron, date: CivilDate, weekday: Weekday) -> Result<Dates, CronError>
@@ -81,7 +82,7 @@ pub fn dates_in_month_of(job: &Cron, date: CivilDate, weekday: Weekday) -> Resul
     Ok(Dates { month, sides })
 }
 
-/// The month of a date, which has this weekday.
+/// The month of a date; `weekday` is the weekday of that date.
 pub fn month_of(date: CivilDate, weekday: Weekday) -> Month
     ensures month { IsMonthOf date (weekday_index weekday) result }
     ensures length { IsInRange 28 31 result.length }

@@ -9,7 +9,7 @@ use croner::parser::PatternField;
 use std::alloc::{AllocError, Global};
 
 impl Warning {
-    /// The name by which it is known, as `either-day`.
+    /// The name of the warning, as `either-day`.
     pub fn name(self) -> &'static str
         ensures { result.now ≡ warning_name self }
     {
@@ -38,7 +38,7 @@ impl Warning {
         }
     }
 
-    /// The field that it is of, where it is one of a field.
+    /// The field that the warning is about, if it is about one.
     pub fn field(self) -> Option<PatternField>
         ensures { result ≡ field_of self }
     {
@@ -96,7 +96,7 @@ impl Warning {
 }
 
 impl OtherWarning {
-    /// The name by which it is known, as `no-zone`.
+    /// The name of the warning, as `no-zone`.
     pub fn name(self) -> &'static str
         ensures { result.now ≡ other_name self }
     {
@@ -121,7 +121,8 @@ impl OtherWarning {
     }
 }
 
-/// The text of a warning, with the dates of `either-day` where there are some, and of `preset` with what the program does.
+/// The text of a warning. That of `either-day` says the dates, if there are some, and that of `preset` what the program
+/// does. The only error is lack of memory.
 pub fn warning_text(
     alloc: Global,
     warning: Warning,

@@ -10,8 +10,8 @@ use croner_base::excerpt::Excerpt;
 use cronplan::{Frequent, MOST_STARTS};
 use std::alloc::{AllocError, Global};
 
-/// What a plan leaves out: a line for each job that starts too often, with its file and line, its title and how many starts it has, and one if
-/// the plan ends earlier than was asked for. Empty if it leaves nothing out.
+/// What a plan leaves out: a line for each job that starts too often, with its file and line, its title and how many starts it has, and a
+/// last line if the plan ends earlier than was asked for. Empty if it leaves nothing out.
 ///
 /// The only error is lack of memory.
 pub fn left_out_text(alloc: Global, view: View<'_>) -> Result<String, AllocError>

@@ -38,8 +38,8 @@ impl Questions {
     }
 }
 
-/// What a plan answers to these, one answer below the other, with an empty line between them. They are about the jobs that are shown: what is
-/// left out tells `left_out_text`.
+/// What a plan answers to these, one answer below the other, with an empty line between them. They are about the jobs that are shown;
+/// `left_out_text` tells what is left out.
 ///
 /// The only error is lack of memory.
 pub fn answers_text(alloc: Global, view: View<'_>, asked: Questions) -> Result<String, AllocError>

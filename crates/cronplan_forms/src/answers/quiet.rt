@@ -27,9 +27,9 @@ pub struct ShownWindow {
 /// ones the one that begins earlier in the day, then the earlier. A line says from when to when a window is, and how long. If the plan begins
 /// or ends with it, `or longer` follows.
 ///
-/// Windows that come again from day to day stand in one line: at the same times of the clock on dates that follow each other, as long, and as
-/// far ahead of UTC. It says on which dates these begin, and where they end on the next day. One that may be longer, or in which the clock is
-/// put forward or back, stands by itself.
+/// Windows that come again from day to day stand in one line: at the same times of the clock on dates that follow each other, as long, and
+/// as far ahead of UTC. The line says on which dates the windows begin, and if they end on the next day, it says that too. A window that
+/// may be longer, or in which the clock is put forward or back, stands by itself.
 ///
 /// The only error is lack of memory.
 pub fn quiet_text(alloc: Global, view: View<'_>, least: u64) -> Result<String, AllocError>

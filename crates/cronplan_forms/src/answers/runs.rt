@@ -16,13 +16,13 @@ use std::alloc::{AllocError, Global};
 use std::cmp::Reverse;
 use std::fmt;
 
-/// So many seconds a window has at least that is told below a picture.
+/// The seconds of the shortest window that is told below a picture.
 pub(crate) const LEAST_LONGEST: u64 = 3_600;
 
-/// So many lines tell of the longest windows below a picture, at most.
+/// The most lines that tell of the longest windows below a picture.
 const MOST_LONGEST: usize = 5;
 
-/// Windows of which each is the one before it a day later.
+/// Windows that come again from day to day: each is the one before it, a day later.
 #[derive(Clone, Copy)]
 pub struct WindowRun<'w> {
     pub windows: &'w [ShownWindow],
@@ -49,7 +49,8 @@ pub(crate) fn told_windows(
     Ok(told)
 }
 
-/// Windows in their order, cut before each that isn't the one before it a day later. The only error is lack of memory.
+/// Windows in their order, cut into runs: a new run begins with each window that isn't the one before it, a day later. The only error is
+/// lack of memory.
 pub(crate) fn window_runs<'w>(
     alloc: Global,
     windows: &'w [ShownWindow],
@@ -161,7 +162,7 @@ fn shown_second(time: ClockTime) -> u64
     second_of_day(time.civil.wall_second())
 }
 
-/// Puts a line for each of these after a text. The only error is want of memory; what then stands after the text is not said.
+/// Appends a line for each of these runs to a text. The only error is lack of memory; the text's end is then unspecified.
 #[tactic(auto, using(crate::proofs::RunSteps::lines_step), unfolding(crate::specs::WindowRuns::run_lines))]
 pub(crate) fn push_runs(text: &mut String, runs: &[WindowRun<'_>]) -> Result<(), AllocError>
     ensures { OnOk result (string_bytes text.new ≡ string_bytes text.old ++ run_lines (map (λ r. r.windows.now) runs.now)) }
@@ -181,7 +182,7 @@ fn push_run(text: &mut String, windows: &[ShownWindow]) -> Result<(), AllocError
     }
 }
 
-// Appends a line for the first window of a run, of which the last one of the others is given, if there are some.
+// Appends a line for a run, given its first window, and the last one of the others if there are some.
 fn push_first(
     text: &mut String,
     first: ShownWindow,
@@ -263,8 +264,8 @@ fn day_text(window: &ShownWindow) -> &'static str
     }
 }
 
-/// Puts after a text a line for each of the first of these, with what stands in front of them; nothing where there is none. The only error is
-/// want of memory; what then stands after the text is not said.
+/// Appends a line for each of the first of these runs to a text, at most `MOST_LONGEST`, with a heading in front of them; nothing if there
+/// is no run. The only error is lack of memory; the text's end is then unspecified.
 #[tactic(auto, using(crate::proofs::RunSteps::first_lines))]
 pub(crate) fn push_longest(
     text: &mut String,

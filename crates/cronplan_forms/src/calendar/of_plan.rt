@@ -29,7 +29,7 @@ pub struct Naming<'n> {
 }
 
 /// The file of a plan's calendar: an event for each of its first starts, at most `MOST_EVENTS`. Its description says what it leaves
-/// out. Equal jobs each have their own events.
+/// out. Each of several equal jobs has its own events.
 ///
 /// The only error is lack of memory.
 pub fn plan_calendar(

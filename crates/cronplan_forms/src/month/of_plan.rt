@@ -37,12 +37,12 @@ struct Grids {
 
 /// The months of a plan, a grid for each that has a date of it on the view's clock, with an empty line between two.
 ///
-/// A date has the titles of the jobs that start on it, each job once, in the order of their first starts there: the first three, and how many are
-/// left. A job that starts on every date that lies wholly in the plan, where there are two such dates or more, stands once below the last grid,
-/// with its times in words, in the order of the first starts of such jobs. A day of a month that isn't a date of the plan has a mark, which a line
-/// below the grids explains. A start whose job the view doesn't have is left out.
+/// A date has the titles of the jobs that start on it, each job once, in the order of their first starts there: the first three, and how
+/// many more there are. A job that starts on every date that lies wholly in the plan, if there are two such dates or more, stands once
+/// below the last grid, with its times in words; such jobs stand in the order of their first starts. A day of a month that isn't a date of
+/// the plan has a mark, which a line below the grids explains. A start whose job the view doesn't have is left out.
 ///
-/// The only error is want of memory.
+/// The only error is lack of memory.
 pub fn months_text(alloc: Global, view: View<'_>) -> Result<String, AllocError>
     ensures { IfOk result (λ t. (months : List Month) × (daily : List Daily) × ArePlanMonths view.entry months daily × (string_bytes t ≡ months_text months daily)) }
 {

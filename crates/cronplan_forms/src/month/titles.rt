@@ -95,7 +95,7 @@ pub(crate) fn titles_by_date(mut titles: Vec<Titled<'_>>) -> Result<Vec<Titled<'
     Ok(titles)
 }
 
-/// Of titles in order of their dates those on one.
+/// Of titles in order of their dates, those on this date.
 pub(crate) fn titles_on<'t, 'v>(titles: &'t [Titled<'v>], date: i64) -> &'t [Titled<'v>]
     requires { AreByDate titles.now }
     ensures { result.now ≡ filter (is_on date) titles.now }
@@ -108,7 +108,7 @@ pub(crate) fn titles_on<'t, 'v>(titles: &'t [Titled<'v>], date: i64) -> &'t [Tit
     titles_first(titles.split_at(earlier).1, date)
 }
 
-// Of titles in order of their dates, of which none is earlier than one, those on it.
+// Of titles in order of their dates, none of them earlier than this date, those on it.
 fn titles_first<'t, 'v>(titles: &'t [Titled<'v>], date: i64) -> &'t [Titled<'v>]
     requires order { AreByDate titles.now }
     ensures { result.now ≡ filter (λ t. int_le t.date date) titles.now }
