@@ -8,6 +8,7 @@ pub mod Nearest
 pub mod Changes
 pub mod Puts
 pub mod Passed
+pub mod Given
 pub mod StopLists
 pub mod History
 pub mod Lives

@@ -32,14 +32,14 @@ turn_second a x b y e = by (int_cmp a b) (nat_cmp x y) (int_ranked a b _ refl) e
     by Equal s same e = same
     by Greater s lt e = absurd (false≢true e)
 
-module _ {T : Type 0} (moment : T → Moment) (id : ℕ) (s : ℤ) (k : ℕ) where
-  next_second : (a b : T) → is_next_turn moment (Run a) id s k ≡ true → is_next_turn moment (Run b) id s k ≡ true → is_same_turn moment (Run a) (Run b) ≡ true
+module _ (id : ℕ) (s : ℤ) (k : ℕ) where
+  next_second : (a b : ℤ) → is_next_turn (Run a) id s k ≡ true → is_next_turn (Run b) id s k ≡ true → is_same_turn (Run a) (Run b) ≡ true
   next_second a b e f =
-      let x = turn_second (moment a).instant id s k e in
-      let y = turn_second (moment b).instant id s k f in
-      subst (λ z. int_eq (moment a).instant z ≡ true) (x ∙ sym y) (is_itself (moment a).instant)
+      let x = turn_second a id s k e in
+      let y = turn_second b id s k f in
+      subst (λ z. int_eq a z ≡ true) (x ∙ sym y) (is_itself a)
 
-  apart_by : (n m : Next T) → is_same_turn moment n m ≡ false → is_next_turn moment n id s k ≡ true → is_next_turn moment m id s k ≡ true → ⊥
+  apart_by : (n m : Next) → is_same_turn n m ≡ false → is_next_turn n id s k ≡ true → is_next_turn m id s k ≡ true → ⊥
   apart_by (Run a) (Run b) apart e f = false≢true (sym apart ∙ next_second a b e f)
   apart_by (Run a) Over apart e f = false≢true f
   apart_by (Run a) (Stopped stop) apart e f = false≢true f
@@ -47,10 +47,10 @@ module _ {T : Type 0} (moment : T → Moment) (id : ℕ) (s : ℤ) (k : ℕ) whe
   apart_by (Stopped stop) m apart e f = false≢true e
 
   -- the turn of the one is taken out after that of the other, where the two differ
-  pub taken_after : (n m : Next T) (has : Bool) → is_same_turn moment n m ≡ false
-      → cond (is_next_turn moment n id s k) false (cond (is_next_turn moment m id s k) true has)
-      ≡ cond (is_next_turn moment m id s k) true (cond (is_next_turn moment n id s k) false has)
-  taken_after n m has apart = by (is_next_turn moment n id s k) (is_next_turn moment m id s k) (λ e f. apart_by n m apart e f)
+  pub taken_after : (n m : Next) (has : Bool) → is_same_turn n m ≡ false
+      → cond (is_next_turn n id s k) false (cond (is_next_turn m id s k) true has)
+      ≡ cond (is_next_turn m id s k) true (cond (is_next_turn n id s k) false has)
+  taken_after n m has apart = by (is_next_turn n id s k) (is_next_turn m id s k) (λ e f. apart_by n m apart e f)
     where
       by : (b d : Bool) → (b ≡ true → d ≡ true → ⊥) → cond b false (cond d true has) ≡ cond d true (cond b false has)
       by true true never = absurd (never refl refl)
@@ -59,12 +59,12 @@ module _ {T : Type 0} (moment : T → Moment) (id : ℕ) (s : ℤ) (k : ℕ) whe
       by false false never = refl
 
   -- and stays where the two are one
-  pub kept_turn : (n m : Next T) (has : Bool) → is_same_turn moment n m ≡ true
-      → cond (is_next_turn moment m id s k) true has ≡ cond (is_next_turn moment m id s k) true (cond (is_next_turn moment n id s k) false has)
+  pub kept_turn : (n m : Next) (has : Bool) → is_same_turn n m ≡ true
+      → cond (is_next_turn m id s k) true has ≡ cond (is_next_turn m id s k) true (cond (is_next_turn n id s k) false has)
   kept_turn (Run a) (Run b) has same =
-      let e : is_next_turn moment (Run a) id s k ≡ is_next_turn moment (Run b) id s k =
-      ap (λ z. is_turn z id s k) (same_second (moment a).instant (moment b).instant same) in
-      by (is_next_turn moment (Run a) id s k) (is_next_turn moment (Run b) id s k) e
+      let e : is_next_turn (Run a) id s k ≡ is_next_turn (Run b) id s k =
+      ap (λ z. is_turn z id s k) (same_second a b same) in
+      by (is_next_turn (Run a) id s k) (is_next_turn (Run b) id s k) e
     where
       by : (b d : Bool) → b ≡ d → cond d true has ≡ cond d true (cond b false has)
       by true true e = refl
@@ -77,7 +77,7 @@ module _ {T : Type 0} (moment : T → Moment) (id : ℕ) (s : ℤ) (k : ℕ) whe
   kept_turn (Stopped stop) m has same = absurd (false≢true same)
 
 module _ {J T : Type 0} (runs : J → Zone → ℤ → Type 0) (moment : T → Moment) (id : ℕ) (jobs jobs' : ℕ → Option (Waiting J T)) (has : ℤ → ℕ → Bool)
-    (listed : (second : ℤ) (k : ℕ) → has second k ≡ is_awaited_at moment second (jobs k))
+    (listed : (second : ℤ) (k : ℕ) → has second k ≡ is_awaited_at second (jobs k))
     (fits : (k : ℕ) → ∥ IfSome (jobs k) (Fits runs moment) ∥₁)
     (w : Waiting J T) (there : jobs id ≡ Some w) (other : Waiting J T) (fit : Fits runs moment other)
     (puts : (k : ℕ) → jobs' k ≡ jobs_with id (λ _. other) k (jobs k)) where
@@ -88,15 +88,15 @@ module _ {J T : Type 0} (runs : J → Zone → ℤ → Type 0) (moment : T → M
   put_own = puts id ∙ ap (λ b. cond b (option_map (λ _. other) (jobs id)) (jobs id)) (own_id id) ∙ ap (option_map (λ _. other)) there
 
   pub put_listed : (has1 : ℤ → ℕ → Bool)
-      → ((s : ℤ) (k : ℕ) → has1 s k ≡ cond (is_next_turn moment other.next id s k) true (cond (is_next_turn moment w.next id s k) false (has s k)))
-      → (s : ℤ) (k : ℕ) → has1 s k ≡ is_awaited_at moment s (jobs' k)
-  put_listed has1 changed s = each id (λ k. has1 s k ≡ is_awaited_at moment s (jobs' k))
-      (changed s id ∙ ap (λ b. cond b true (cond (is_next_turn moment w.next id s id) false (has s id))) (turn_here moment other.next id s)
-      ∙ ap (cond (is_next_at moment s other.next) true) (ap (λ b. cond b false (has s id)) (turn_here moment w.next id s)
-      ∙ ap (cond (is_next_at moment s w.next) false) (listed s id ∙ ap (is_awaited_at moment s) there))
-      ∙ own (is_next_at moment s other.next) (is_next_at moment s w.next) ∙ sym (ap (is_awaited_at moment s) put_own))
-      (λ k e. changed s k ∙ ap (λ b. cond b true (cond (is_next_turn moment w.next id s k) false (has s k))) (turn_apart moment other.next id s k e)
-      ∙ ap (λ b. cond b false (has s k)) (turn_apart moment w.next id s k e) ∙ listed s k ∙ sym (ap (is_awaited_at moment s) (put_apart k e)))
+      → ((s : ℤ) (k : ℕ) → has1 s k ≡ cond (is_next_turn other.next id s k) true (cond (is_next_turn w.next id s k) false (has s k)))
+      → (s : ℤ) (k : ℕ) → has1 s k ≡ is_awaited_at s (jobs' k)
+  put_listed has1 changed s = each id (λ k. has1 s k ≡ is_awaited_at s (jobs' k))
+      (changed s id ∙ ap (λ b. cond b true (cond (is_next_turn w.next id s id) false (has s id))) (turn_here other.next id s)
+      ∙ ap (cond (is_next_at s other.next) true) (ap (λ b. cond b false (has s id)) (turn_here w.next id s)
+      ∙ ap (cond (is_next_at s w.next) false) (listed s id ∙ ap (is_awaited_at s) there))
+      ∙ own (is_next_at s other.next) (is_next_at s w.next) ∙ sym (ap (is_awaited_at s) put_own))
+      (λ k e. changed s k ∙ ap (λ b. cond b true (cond (is_next_turn w.next id s k) false (has s k))) (turn_apart other.next id s k e)
+      ∙ ap (λ b. cond b false (has s k)) (turn_apart w.next id s k e) ∙ listed s k ∙ sym (ap (is_awaited_at s) (put_apart k e)))
     where
       own : (b d : Bool) → cond b true (cond d false d) ≡ b
       own true d = refl
@@ -125,7 +125,7 @@ module _ {J T : Type 0} (runs : J → Zone → ℤ → Type 0) (moment : T → M
             zone_is = refl;
             instant = refl;
             whole = fit.whole;
-            stop = stops_where (runs other.job) moment (moment other.position) other.next fit.next;
+            stop = stops_where (runs other.job) (moment other.position) other.next fit.next;
           });
       rest = put_rest;
     }
@@ -145,7 +145,7 @@ module _ {J T : Type 0} (runs : J → Zone → ℤ → Type 0) (moment : T → M
             zone_is = zone;
             instant = refl;
             whole = fit.whole;
-            stop = stops_where (runs other.job) moment (moment other.position) other.next fit.next;
+            stop = stops_where (runs other.job) (moment other.position) other.next fit.next;
           }));
       rest = put_rest;
     }

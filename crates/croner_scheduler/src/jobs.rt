@@ -8,11 +8,10 @@ ghost use Rattle.std.specs.Option.{option_copied};
 ghost use Rattle.std.specs.Ordering.{nat_cmp};
 ghost use Rattle.croner_scheduler.specs.Ids.{job_of};
 ghost use Rattle.croner_scheduler.specs.Private.Places.{entries_in, AreInRow, PutsInFront};
-ghost use Rattle.croner_scheduler.specs.Private.Steps.{jobs_with, job_after_run, job_at_position, job_standing_at, job_with_next, FitsAfter, ArePartsOf};
+ghost use Rattle.croner_scheduler.specs.Private.Steps.{jobs_with, job_at_position, job_standing_at, job_with_next, ArePartsOf};
 
 use crate::iter::Iter;
 use crate::waiting::{Next, Waiting};
-use croner::{Clocked, Recurring};
 use std::alloc::{AllocError, Global};
 use std::marker::Model;
 use std::mem;
@@ -133,21 +132,8 @@ impl<J, T> Jobs<J, T> {
         waiting
     }
 
-    // One job steps to its next run.
-    pub(crate) fn step(&mut self, id: u64, next: Next<T>)
-    where
-        T: Drop,
-        ensures jobs { (other : ℕ) → job_of self.new other ≡ jobs_with id (job_after_run next) other (job_of self.old other) }
-        ensures count { length self.new.entries ≡ length self.old.entries }
-        ensures next_id { self.new.next_id ≡ self.old.next_id }
-    {
-        if let Some(place) = place_of(&self.ids, id) {
-            step(&mut self.places[place], next);
-        }
-    }
-
     // One job moves to another position.
-    pub(crate) fn move_to(&mut self, id: u64, position: T, next: Next<T>)
+    pub(crate) fn move_to(&mut self, id: u64, position: T, next: Next)
     where
         T: Drop,
         ensures jobs { (other : ℕ) → job_of self.new other ≡ jobs_with id (job_at_position position next) other (job_of self.old other) }
@@ -173,9 +159,7 @@ impl<J, T> Jobs<J, T> {
     }
 
     // One job has another run next.
-    pub(crate) fn renew(&mut self, id: u64, next: Next<T>)
-    where
-        T: Drop,
+    pub(crate) fn renew(&mut self, id: u64, next: Next)
         ensures jobs { (other : ℕ) → job_of self.new other ≡ jobs_with id (job_with_next next) other (job_of self.old other) }
         ensures count { length self.new.entries ≡ length self.old.entries }
         ensures next_id { self.new.next_id ≡ self.old.next_id }
@@ -206,27 +190,7 @@ impl<J, T> Jobs<J, T> {
     }
 }
 
-impl<J: Recurring<T>, T: Clocked> Jobs<J, T> {
-    // What comes next after the next run of a job.
-    pub(crate) fn next_but_one(&self, id: u64) -> Result<Next<T>, AllocError>
-        ensures { IfOk result (λ next. IfSome (job_of self.now id) (λ w. FitsAfter (J.runs w.job) T.moment w.next next)) }
-    {
-        match self.get(id) {
-            Some(waiting) => waiting.next_but_one(),
-            None => Ok(Next::Over),
-        }
-    }
-}
-
-fn step<J, T: Drop>(place: &mut Option<Waiting<J, T>>, next: Next<T>)
-    ensures { place.new ≡ option_map (job_after_run next) place.old }
-{
-    if let Some(waiting) = place {
-        waiting.step(next);
-    }
-}
-
-fn move_to<J, T: Drop>(place: &mut Option<Waiting<J, T>>, position: T, next: Next<T>)
+fn move_to<J, T: Drop>(place: &mut Option<Waiting<J, T>>, position: T, next: Next)
     ensures { place.new ≡ option_map (job_at_position position next) place.old }
 {
     if let Some(waiting) = place {
@@ -242,7 +206,7 @@ fn move_before_next<J, T: Drop>(place: &mut Option<Waiting<J, T>>, position: T)
     }
 }
 
-fn renew<J, T: Drop>(place: &mut Option<Waiting<J, T>>, next: Next<T>)
+fn renew<J, T>(place: &mut Option<Waiting<J, T>>, next: Next)
     ensures { place.new ≡ option_map (job_with_next next) place.old }
 {
     if let Some(waiting) = place {

@@ -4,7 +4,6 @@ ghost use Rattle.croner_scheduler.specs.Calls.{turn_of};
 ghost use Rattle.croner_scheduler.specs.Private.Turns.{has_turn, is_turn, is_next_turn, IsFirstTurn, is_same_turn};
 
 use crate::waiting::Next;
-use croner::Clocked;
 use std::alloc::AllocError;
 use std::collections::BTreeSet;
 
@@ -57,43 +56,43 @@ fn turn_at(turn: &(i64, u64)) -> Turn
 }
 
 // Adds the turn of a job's next run, if it has one.
-pub(crate) fn await_next<T: Clocked>(
+pub(crate) fn await_next(
     turns: &mut BTreeSet<(i64, u64)>,
-    next: &Next<T>,
+    next: Next,
     id: u64,
 ) -> Result<(), AllocError>
     ensures added { OnOk result ((second : ℤ) (other : ℕ) → has_turn turns.new second other
-        ≡ cond (is_next_turn T.moment next.now id second other) true (has_turn turns.old second other)) }
+        ≡ cond (is_next_turn next id second other) true (has_turn turns.old second other)) }
     ensures kept { OnErr result ((second : ℤ) (other : ℕ) → has_turn turns.new second other ≡ has_turn turns.old second other) }
 {
     match next {
-        Next::Run(run) => add_turn(turns, run.second(), id),
+        Next::Run(second) => add_turn(turns, second, id),
         Next::Over | Next::Stopped(_) => Ok(()),
     }
 }
 
 // Removes the turn of a job's next run, if it has one.
-pub(crate) fn take_out_next<T: Clocked>(turns: &mut BTreeSet<(i64, u64)>, next: &Next<T>, id: u64)
+pub(crate) fn take_out_next(turns: &mut BTreeSet<(i64, u64)>, next: Next, id: u64)
     ensures { (second : ℤ) (other : ℕ) → has_turn turns.new second other
-        ≡ cond (is_next_turn T.moment next.now id second other) false (has_turn turns.old second other) }
+        ≡ cond (is_next_turn next id second other) false (has_turn turns.old second other) }
 {
     match next {
-        Next::Run(run) => take_out_turn(turns, run.second(), id),
+        Next::Run(second) => take_out_turn(turns, second, id),
         Next::Over | Next::Stopped(_) => {}
     }
 }
 
 // Replaces the turn of a job's old next run by that of its new one.
 #[tactic(auto, using(crate::proofs::Puts::taken_after, crate::proofs::Puts::kept_turn))]
-pub(crate) fn change_turn<T: Clocked>(
+pub(crate) fn change_turn(
     turns: &mut BTreeSet<(i64, u64)>,
-    old: &Next<T>,
-    next: &Next<T>,
+    old: Next,
+    next: Next,
     id: u64,
 ) -> Result<(), AllocError>
     ensures changed { OnOk result ((second : ℤ) (other : ℕ) → has_turn turns.new second other
-        ≡ cond (is_next_turn T.moment next.now id second other) true
-        (cond (is_next_turn T.moment old.now id second other) false (has_turn turns.old second other))) }
+        ≡ cond (is_next_turn next id second other) true
+        (cond (is_next_turn old id second other) false (has_turn turns.old second other))) }
     ensures kept { OnErr result ((second : ℤ) (other : ℕ) → has_turn turns.new second other ≡ has_turn turns.old second other) }
 {
     await_next(turns, next, id)?;
@@ -105,11 +104,11 @@ pub(crate) fn change_turn<T: Clocked>(
 }
 
 // Whether two next runs are at one second.
-fn is_same_turn<T: Clocked>(old: &Next<T>, next: &Next<T>) -> bool
-    ensures { result ≡ is_same_turn T.moment old.now next.now }
+fn is_same_turn(old: Next, next: Next) -> bool
+    ensures { result ≡ is_same_turn old next }
 {
     match (old, next) {
-        (Next::Run(a), Next::Run(b)) => a.second() == b.second(),
+        (Next::Run(a), Next::Run(b)) => a == b,
         (Next::Over | Next::Stopped(_), _) | (_, Next::Over | Next::Stopped(_)) => false,
     }
 }

@@ -5,7 +5,6 @@ use Rattle.std.specs.BTreeMap.{is_at}
 use Rattle.std.specs.BTreeSet.{BTreeSet, contains}
 use Rattle.std.specs.Ordering.{nat_cmp, int_cmp, int_eq, ordering_then}
 use Rattle.std.specs.declared.cmp.Ordering.{Ordering}
-use Rattle.croner_base.specs.Zone.{Moment}
 use Rattle.croner_scheduler.specs.declared.turns.Turn.{Turn}
 use Rattle.croner_scheduler.specs.declared.waiting.Next.{Next}
 use Rattle.croner_scheduler.specs.declared.waiting.Next.TheVariants.{Run}
@@ -23,9 +22,9 @@ abbrev pub is_turn : ℤ → ℕ → ℤ → ℕ → Bool
 is_turn second id other_second other = is_at (turn_cmp (second, id)) (other_second, other)
 
 -- it is the turn of a job's next run
-abbrev pub is_next_turn : {T : Type 0} → (T → Moment) → Next T → ℕ → ℤ → ℕ → Bool
-is_next_turn moment (Run t) id second other = is_turn (moment t).instant id second other
-is_next_turn moment next id second other = false
+abbrev pub is_next_turn : Next → ℕ → ℤ → ℕ → Bool
+is_next_turn (Run i) id second other = is_turn i id second other
+is_next_turn next id second other = false
 
 -- the first of the turns; none where there is no turn
 abbrev pub IsFirstTurn : (ℤ → ℕ → Bool) → Option Turn → Type 0
@@ -34,6 +33,6 @@ IsFirstTurn has (Some due) = (has due.second due.id ≡ true)
 IsFirstTurn has None = (second : ℤ) (id : ℕ) → has second id ≡ false
 
 -- the next runs of two positions of one job are at one second
-abbrev pub is_same_turn : {T : Type 0} → (T → Moment) → Next T → Next T → Bool
-is_same_turn moment (Run a) (Run b) = int_eq (moment a).instant (moment b).instant
-is_same_turn moment old next = false
+abbrev pub is_same_turn : Next → Next → Bool
+is_same_turn (Run a) (Run b) = int_eq a b
+is_same_turn old next = false

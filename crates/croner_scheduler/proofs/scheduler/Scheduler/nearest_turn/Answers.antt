@@ -2,7 +2,7 @@ use Rattle.std.proofs.Common.{refl}
 use Rattle.croner_scheduler.specs.Ids.{job_of}
 use Rattle.croner_scheduler.specs.Private.Turns.{has_turn}
 use Rattle.croner_scheduler.specs.Views.{held_of}
-use Rattle.croner_scheduler.proofs.Nearest.{nearest, awaits_first}
+use Rattle.croner_scheduler.proofs.Nearest.{nearest, is_awaited, awaits_first}
 use Rattle.croner_scheduler.proofs.scheduler.Scheduler.nearest_turn.Goals as goal
 
 pub returns-clause-nearest : goal.returns-clause-nearest
@@ -10,6 +10,11 @@ returns-clause-nearest g c =
     let self = c.args.self.now in
     nearest g.J.Recurring.runs g.T.CronDateTime.moment (held_of g.T.CronDateTime.moment self) (λ id. job_of self.jobs id) (has_turn self.turns)
     (λ id. refl) self.listed self.fits c.first_turn.result c.first_turn.ensures
+
+pub returns-clause-turn : goal.returns-clause-turn
+returns-clause-turn g c =
+    let self = c.args.self.now in
+    is_awaited (λ id. job_of self.jobs id) (has_turn self.turns) self.listed c.first_turn.result c.first_turn.ensures
 
 pub returns-clause-awaited : goal.returns-clause-awaited
 returns-clause-awaited g c =
