@@ -2,6 +2,7 @@ pub mod Ids
 pub mod Places
 pub mod TakenOut
 pub mod TurnOrder
+pub mod TurnHeap
 pub mod NextRuns
 pub mod LastRuns
 pub mod Nearest

@@ -1,5 +1,5 @@
 -- The first turn is the nearest run that is left.
-use Rattle.std.proofs.Common.{◌≡◌, refl, sym, ap, ◌∙◌, subst, arith, ℕ, ◌≤◌, ℤ, ◌<ℤ◌, ◌≤ℤ◌, Bool, true, false, Option, Some, None, IfSome, option_map}
+use Rattle.std.proofs.Common.{◌≡◌, refl, sym, ap, ◌∙◌, subst, arith, ℕ, ◌≤◌, ℤ, ◌<ℤ◌, ◌≤ℤ◌, true, false, Option, Some, None, IfSome, option_map}
 use Rattle.std.proofs.Math.Logic.{∥∥₁_elim, ∥∥₁_map}
 use Rattle.std.proofs.Props.{props}
 use Rattle.std.proofs.lemmas.Bool.{false≢true}
@@ -114,26 +114,24 @@ module _ {J T : Type 0} (runs : J → Zone → ℤ → Type 0) (moment : T → M
 
 -- ---- all jobs
 
-module _ {J T : Type 0} (runs : J → Zone → ℤ → Type 0) (moment : T → Moment) (h : Held J) (jobs : ℕ → Option (Waiting J T)) (has : ℤ → ℕ → Bool)
+module _ {J T : Type 0} (runs : J → Zone → ℤ → Type 0) (moment : T → Moment) (h : Held J) (jobs : ℕ → Option (Waiting J T))
     (is : (id : ℕ) → h.jobs id ≡ option_map (standing_of moment) (jobs id))
-    (listed : (second : ℤ) (id : ℕ) → has second id ≡ is_awaited_at second (jobs id))
     (fits : (id : ℕ) → ∥ IfSome (jobs id) (Fits runs moment) ∥₁) where
-  pub nearest : (first : Option Turn) → IsFirstTurn has first → IsNearest runs h first
+  pub nearest : (first : Option Turn) → IsFirstTurn (λ s k. is_awaited_at s (jobs k)) first → IsNearest runs h first
   nearest (Some due) first = record {
     givable = subst (λ o. IsSomeAnd o (IsGivable runs due.second)) (sym (is due.id))
-        (givable runs moment (jobs due.id) (fits due.id) due.second (sym (listed due.second due.id) ∙ first.0));
+        (givable runs moment (jobs due.id) (fits due.id) due.second first.0);
     first = λ l. subst (λ o. IfSome o (ComesAfter runs due.id due.second l)) (sym (is l))
-        (comes_after runs moment (jobs l) (fits l) due.id l due.second (λ s at. first.1 s l (listed s l ∙ at)));
+        (comes_after runs moment (jobs l) (fits l) due.id l due.second (λ s. first.1 s l));
   }
   nearest None first = λ l. subst (λ o. IfSome o (HasNoneSeen runs)) (sym (is l))
-      (none_seen runs moment (jobs l) (fits l) (λ s. sym (listed s l) ∙ first s l))
+      (none_seen runs moment (jobs l) (fits l) (λ s. first s l))
 
 -- the first turn is that of a run that is awaited
-pub is_awaited : {J T : Type 0} (jobs : ℕ → Option (Waiting J T)) (has : ℤ → ℕ → Bool)
-    → ((second : ℤ) (id : ℕ) → has second id ≡ is_awaited_at second (jobs id)) → (first : Option Turn) → IsFirstTurn has first
+pub first_is_awaited : {J T : Type 0} (jobs : ℕ → Option (Waiting J T)) (first : Option Turn) → IsFirstTurn (λ s k. is_awaited_at s (jobs k)) first
     → IfSome first (λ turn. is_awaited_at turn.second (jobs turn.id) ≡ true)
-is_awaited jobs has listed (Some turn) first = sym (listed turn.second turn.id) ∙ first.0
-is_awaited jobs has listed None first = tt
+first_is_awaited jobs (Some turn) first = first.0
+first_is_awaited jobs None first = tt
 
 -- where the nearest run comes later than now, none is due
 module _ {J : Type 0} (runs : J → Zone → ℤ → Type 0) (h : Held J) (now : ℤ) where
@@ -148,11 +146,10 @@ module _ {J : Type 0} (runs : J → Zone → ℤ → Type 0) (h : Held J) (now :
 
 module _ {J T : Type 0} (moment : T → Moment) (h : Held J) (jobs : ℕ → Option (Waiting J T))
     (is : (id : ℕ) → h.jobs id ≡ option_map (standing_of moment) (jobs id)) where
-  pub awaits_first : (has : ℤ → ℕ → Bool) → ((second : ℤ) (id : ℕ) → has second id ≡ is_awaited_at second (jobs id))
-      → (first : Option Turn) → IsFirstTurn has first → AwaitsFirst h first
-  awaits_first has listed (Some due) first = (
-    subst (λ o. IsSomeAnd o (λ s. s.next ≡ Some due.second)) (sym (is due.id)) (own (jobs due.id) (sym (listed due.second due.id) ∙ first.0)),
-    λ l. subst (λ o. IfSome o (WaitsAfter due.id due.second l)) (sym (is l)) (after_all l (jobs l) (λ s at. first.1 s l (listed s l ∙ at))),
+  pub awaits_first : (first : Option Turn) → IsFirstTurn (λ s k. is_awaited_at s (jobs k)) first → AwaitsFirst h first
+  awaits_first (Some due) first = (
+    subst (λ o. IsSomeAnd o (λ s. s.next ≡ Some due.second)) (sym (is due.id)) (own (jobs due.id) first.0),
+    λ l. subst (λ o. IfSome o (WaitsAfter due.id due.second l)) (sym (is l)) (after_all l (jobs l) (λ s at. first.1 s l at)),
   )
     where
       own_next : (n : Next) → is_next_at due.second n ≡ true → second_of n ≡ Some due.second
@@ -174,7 +171,7 @@ module _ {J T : Type 0} (moment : T → Moment) (h : Held J) (jobs : ℕ → Opt
           → IfSome (option_map (standing_of moment) o) (WaitsAfter due.id due.second l)
       after_all l None first = tt
       after_all l (Some w) first = after_next l w.next first
-  awaits_first has listed None none = λ l. subst (λ o. IfSome o (λ s. s.next ≡ None)) (sym (is l)) (none_in (jobs l) (λ s. sym (listed s l) ∙ none s l))
+  awaits_first None none = λ l. subst (λ o. IfSome o (λ s. s.next ≡ None)) (sym (is l)) (none_in (jobs l) (λ s. none s l))
     where
       none_next : (n : Next) → ((s : ℤ) → is_next_at s n ≡ false) → second_of n ≡ None
       none_next (Run j) none = absurd (false≢true (sym (none j) ∙ is_itself j))

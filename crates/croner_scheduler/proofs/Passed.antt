@@ -1,5 +1,5 @@
 -- What a scheduler holds stays in order when a job is put at another position before its next run.
-use Rattle.std.proofs.Common.{rules, ◌≡◌, refl, sym, ap, ◌∙◌, subst, arith, ℕ, ℤ, ◌<ℤ◌, Bool, true, false, cond, Option, None, Some, IfSome, option_map}
+use Rattle.std.proofs.Common.{rules, ◌≡◌, refl, sym, ap, ◌∙◌, subst, arith, ℕ, ℤ, ◌<ℤ◌, true, false, cond, Option, None, Some, IfSome, option_map}
 use Rattle.std.proofs.Math.Logic.{∥∥₁_map}
 use Rattle.std.proofs.lemmas.Bool.{false≢true}
 use Rattle.std.proofs.lemmas.Int.{ints}
@@ -15,7 +15,7 @@ use Rattle.croner_scheduler.specs.declared.waiting.Waiting.{Waiting}
 use Rattle.croner_scheduler.specs.Calls.{StandsAt, MovesTo}
 use Rattle.croner_scheduler.specs.Kept.{standing_of, stop_of, StopsAt, FitsNext, Fits}
 use Rattle.croner_scheduler.specs.Standing.{Held}
-use Rattle.croner_scheduler.specs.Private.Steps.{jobs_with, job_standing_at, is_next_after, CanStand, is_awaited_at}
+use Rattle.croner_scheduler.specs.Private.Steps.{jobs_with, job_standing_at, is_next_after, CanStand}
 
 module _ (rs : Zone → ℤ → Type 0) where
   -- what comes next from a moment comes next from a later one before it
@@ -49,15 +49,6 @@ module _ {J T : Type 0} (runs : J → Zone → ℤ → Type 0) (moment : T → M
 
   passed_own : jobs' id ≡ option_map (job_standing_at position) (jobs id)
   passed_own = stands id ∙ ap (λ b. cond b (option_map (job_standing_at position) (jobs id)) (jobs id)) (own_id id)
-
-  pub passed_listed : (has : ℤ → ℕ → Bool) → ((s : ℤ) (k : ℕ) → has s k ≡ is_awaited_at s (jobs k)) → (s : ℤ) (k : ℕ) → has s k ≡ is_awaited_at s (jobs' k)
-  passed_listed has listed s = each id (λ k. has s k ≡ is_awaited_at s (jobs' k))
-      (listed s id ∙ still (jobs id) ∙ sym (ap (is_awaited_at s) passed_own))
-      (λ k e. listed s k ∙ sym (ap (is_awaited_at s) (passed_apart k e)))
-    where
-      still : (o : Option (Waiting J T)) → is_awaited_at s o ≡ is_awaited_at s (option_map (job_standing_at position) o)
-      still None = refl
-      still (Some w) = refl
 
   pub passed_fits : (k : ℕ) → ∥ IfSome (jobs' k) (Fits runs moment) ∥₁
   passed_fits = each id (λ k. ∥ IfSome (jobs' k) (Fits runs moment) ∥₁)

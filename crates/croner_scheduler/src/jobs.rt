@@ -8,16 +8,20 @@ ghost use Rattle.std.specs.Option.{option_copied};
 ghost use Rattle.std.specs.Ordering.{nat_cmp};
 ghost use Rattle.croner_scheduler.specs.Ids.{job_of};
 ghost use Rattle.croner_scheduler.specs.Private.Places.{entries_in, AreInRow, PutsInFront};
-ghost use Rattle.croner_scheduler.specs.Private.Steps.{jobs_with, job_at_position, job_standing_at, job_with_next, ArePartsOf};
+ghost use Rattle.croner_scheduler.specs.Private.Steps.{jobs_with, job_at_position, job_standing_at, job_with_next, is_awaited_at, ArePartsOf};
 
 use crate::iter::Iter;
+use crate::turns::Turn;
 use crate::waiting::{Next, Waiting};
 use std::alloc::{AllocError, Global};
 use std::marker::Model;
 use std::mem;
 
-// Where there is no room for another place, an eighth of the places is freed, if so many are empty, or taken besides.
-const PART_OF_PLACES: usize = 8;
+// Where there is no room for another place, the empty ones are taken out, if an eighth of the places is empty, or room is taken for a
+// sixteenth besides.
+const EMPTY_PART: usize = 8;
+
+const ROOM_PART: usize = 16;
 
 // And this many besides, so that some room is taken where there are few.
 const LEAST_ROOM: usize = 4;
@@ -84,6 +88,16 @@ impl<J, T> Jobs<J, T> {
         }
     }
 
+    // Whether the next run of a job is that of a turn.
+    pub(crate) fn is_awaiting(&self, turn: Turn) -> bool
+        ensures { result ≡ is_awaited_at turn.second (job_of self.now turn.id) }
+    {
+        match self.get(turn.id) {
+            Some(waiting) => waiting.runs_at(turn.second),
+            None => false,
+        }
+    }
+
     // The jobs with their ids.
     pub(crate) fn iter(&self) -> Iter<'_, J, T>
         ensures entries { result ≡ self.now.entries }
@@ -102,6 +116,7 @@ impl<J, T> Jobs<J, T> {
         T: Drop,
         requires { self.old.next_id < 2 ^ 64 - 1 }
         ensures id { IfOk result (λ id. id ≡ self.old.next_id) }
+        ensures unused { OnOk result (job_of self.old self.old.next_id ≡ None) }
         ensures jobs { OnOk result ((other : ℕ) → job_of self.new other ≡ cond (is_at (nat_cmp self.old.next_id) other) (Some waiting) (job_of self.old other)) }
         ensures count { OnOk result (length self.new.entries ≡ length self.old.entries + 1) }
         ensures next_id { OnOk result (self.new.next_id ≡ self.old.next_id + 1) }
@@ -117,6 +132,14 @@ impl<J, T> Jobs<J, T> {
         self.count += 1;
         self.next_id = id + 1;
         Ok(id)
+    }
+
+    // Takes room for so many more jobs.
+    pub(crate) fn reserve(&mut self, additional: usize) -> Result<(), AllocError>
+        ensures { self.new ≡ self.old }
+    {
+        self.ids.reserve_exact(additional)?;
+        self.places.reserve_exact(additional)
     }
 
     // Removes a job.
@@ -270,7 +293,7 @@ fn thin_out<J: Drop, T: Drop>(
     requires { length ids.old.items ≡ length places.old.items }
     ensures { AreInRow ids.old.items places.old.items ids.new.items places.new.items }
 {
-    if places.len() < places.capacity() || places.len() - places.len() / PART_OF_PLACES < count {
+    if places.len() < places.capacity() || places.len() - places.len() / EMPTY_PART < count {
         return;
     }
     take_out_empty(ids, places);
@@ -284,7 +307,7 @@ fn take_room<X>(items: &mut Vec<X>) -> Result<(), AllocError>
     if items.len() < items.capacity() {
         return Ok(());
     }
-    items.reserve_exact(items.len() / PART_OF_PLACES + LEAST_ROOM)
+    items.reserve_exact(items.len() / ROOM_PART + LEAST_ROOM)
 }
 
 // Takes out the empty places.

@@ -1,8 +1,10 @@
 //! The scheduler.
-ghost use Rattle.std.specs.Prelude.{◌≡◌, ◌≤◌, ℕ, ℤ, is_some, IfSome};
+ghost use Rattle.std.proofs.Props.{props};
+ghost use Rattle.std.specs.Prelude.{◌≡◌, ◌≤◌, ℕ, is_some, IfSome};
+ghost use Rattle.std.specs.BinaryHeap.{heap_items};
 ghost use Rattle.std.specs.Ordering.{nat_cmp};
 ghost use Rattle.croner_scheduler.specs.Ids.{job_of};
-ghost use Rattle.croner_scheduler.specs.Private.Turns.{has_turn};
+ghost use Rattle.croner_scheduler.specs.Private.Turns.{AreTurnsOf};
 ghost use Rattle.croner_scheduler.specs.Kept.{Fits};
 ghost use Rattle.croner_scheduler.specs.Private.Latest.{CanGive, IsLastGiven};
 ghost use Rattle.croner_scheduler.specs.Private.Steps.{is_awaited_at, CanStand, IsRunOf};
@@ -11,12 +13,12 @@ use crate::add::{not_added, not_added_for_memory};
 use crate::iter::Iter;
 use crate::jobs::Jobs;
 use crate::latest::{Last, last_of};
-use crate::turns::{Due, Turn, await_next, change_turn, due_of, first_turn, take_out_next};
+use crate::turns::{Due, Turn, Turns, await_next, due_of, first_turn, make_room, reserve, settle};
 use crate::waiting::{Waiting, next_of, second_before};
 use crate::{AddError, Added, Again, Latest, NotAdded, Replaced, Skip, Stops};
 use croner::{Clocked, Recurring};
 use std::alloc::{AllocError, Global};
-use std::collections::BTreeSet;
+use std::collections::BinaryHeap;
 
 /// Jobs under ids, each with a position: the moment up to which its runs are done.
 ///
@@ -46,8 +48,8 @@ use std::collections::BTreeSet;
 /// ```
 pub struct Scheduler<J: Recurring<T>, T: Clocked> {
     jobs: Jobs<J, T>,
-    turns: BTreeSet<(i64, u64)>,
-    ghost listed: { (second : ℤ) (id : ℕ) → has_turn turns second id ≡ is_awaited_at second (job_of jobs id) },
+    turns: Turns,
+    ghost turns_of: { AreTurnsOf (job_of jobs) (heap_items turns) } by { Prim.hlevel props },
     ghost fits: { (id : ℕ) → ∥ IfSome (job_of jobs id) (Fits J.runs T.moment) ∥₁ },
 }
 
@@ -88,8 +90,18 @@ impl<J: Recurring<T>, T: Clocked> Scheduler<J, T> {
     {
         Scheduler {
             jobs: Jobs::new(alloc, first_id),
-            turns: BTreeSet::new(alloc),
+            turns: BinaryHeap::new(alloc),
         }
+    }
+
+    /// Takes room for so many more jobs, for a program that knows how many it will add: their places then take no memory that isn't needed,
+    /// and none when they are added. Without it room for a sixteenth more is taken at a time. Nothing else changes; after lack of memory
+    /// there may be room for fewer.
+    pub fn reserve(&mut self, additional: usize) -> Result<(), AllocError>
+        ensures same { IsSame (held_of T.moment self.old) (held_of T.moment self.new) }
+    {
+        self.jobs.reserve(additional)?;
+        reserve(&mut self.turns, additional)
     }
 
     /// How many jobs there are, including those that are stopped or have no run left.
@@ -301,10 +313,10 @@ impl<J: Recurring<T>, T: Clocked> Scheduler<J, T> {
             return Ok(Again::NotStopped);
         }
         let next = next_of(&waiting.job, &waiting.position)?;
-        change_turn(&mut self.turns, waiting.next, next, id)?;
-        let again = next.again_result();
+        make_room(&mut self.turns, &self.jobs)?;
         self.jobs.renew(id, next);
-        Ok(again)
+        await_next(&mut self.turns, &self.jobs, next, id);
+        Ok(next.again_result())
     }
 
     /// The jobs with their ids, in the order of the ids. Takes no memory; the iterator borrows the scheduler.
@@ -334,11 +346,10 @@ impl<J: Recurring<T>, T: Clocked> Scheduler<J, T> {
         ensures removed { IsRemoved id (held_of T.moment self.old) (held_of T.moment self.new) }
         ensures count { (held_of T.moment self.new).count + (if is_some result then 1 else 0) ≡ (held_of T.moment self.old).count }
     {
-        match self.jobs.remove(id) {
-            Some(waiting) => {
-                take_out_next(&mut self.turns, waiting.next, id);
-                Some(waiting.into_parts())
-            }
+        let removed = self.jobs.remove(id);
+        settle(&mut self.turns, &self.jobs);
+        match removed {
+            Some(waiting) => Some(waiting.into_parts()),
             None => None,
         }
     }
@@ -463,19 +474,19 @@ impl<J: Recurring<T>, T: Clocked> Scheduler<J, T> {
         ensures returned { IfErr result (λ returned. returned ≡ other) }
         ensures same { OnErr result (IsSame (held_of T.moment self.old) (held_of T.moment self.new)) }
     {
-        let Some(waiting) = self.jobs.get(id) else {
+        let Ok(()) = make_room(&mut self.turns, &self.jobs) else {
             return Err(other);
         };
-        let Ok(()) = change_turn(&mut self.turns, waiting.next, other.next, id) else {
-            return Err(other);
-        };
-        let is_stopped = other.is_stopped();
+        let next = other.next;
         match self.jobs.exchange(id, other) {
-            Ok((job, position)) => Ok(Replaced {
-                job,
-                position,
-                is_stopped,
-            }),
+            Ok((job, position)) => {
+                await_next(&mut self.turns, &self.jobs, next, id);
+                Ok(Replaced {
+                    job,
+                    position,
+                    is_stopped: next.is_stopped(),
+                })
+            }
             Err(other) => Err(other),
         }
     }
@@ -503,10 +514,10 @@ impl<J: Recurring<T>, T: Clocked> Scheduler<J, T> {
             return Ok(false);
         };
         let next = next_of(&waiting.job, &position)?;
-        change_turn(&mut self.turns, waiting.next, next, id)?;
-        let is_stopped = next.is_stopped();
+        make_room(&mut self.turns, &self.jobs)?;
         self.jobs.move_to(id, position, next);
-        Ok(is_stopped)
+        await_next(&mut self.turns, &self.jobs, next, id);
+        Ok(next.is_stopped())
     }
 
     // Adds a job at a position; `given` is the position that the caller passed.
@@ -541,17 +552,19 @@ impl<J: Recurring<T>, T: Clocked> Scheduler<J, T> {
         ensures returned { IfErr result (λ returned. returned ≡ waiting) }
         ensures same { OnErr result (IsSame (held_of T.moment self.old) (held_of T.moment self.new)) }
     {
-        let id = self.jobs.next_id();
-        let Ok(()) = await_next(&mut self.turns, waiting.next, id) else {
+        let Ok(()) = make_room(&mut self.turns, &self.jobs) else {
             return Err(waiting);
         };
-        let is_stopped = waiting.is_stopped();
+        let next = waiting.next;
         match self.jobs.add(waiting) {
-            Ok(id) => Ok(Added { id, is_stopped }),
-            Err(returned) => {
-                take_out_next(&mut self.turns, returned.next, id);
-                Err(returned)
+            Ok(id) => {
+                await_next(&mut self.turns, &self.jobs, next, id);
+                Ok(Added {
+                    id,
+                    is_stopped: next.is_stopped(),
+                })
             }
+            Err(returned) => Err(returned),
         }
     }
 }

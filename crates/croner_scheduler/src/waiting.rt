@@ -2,7 +2,7 @@
 ghost use Rattle.std.specs.Prelude.{◌≡◌, is_some, option_map, IfOk, IfErr};
 ghost use Rattle.croner_scheduler.specs.Kept.{standing_of, stop_of, second_of, FitsNext, Fits};
 ghost use Rattle.croner_scheduler.specs.Private.Latest.{due_second};
-ghost use Rattle.croner_scheduler.specs.Private.Steps.{next_of_run, next_of_refusal, IsSecondBefore, job_at_position, job_standing_at, is_next_after, job_with_next, again_of, refusal_of};
+ghost use Rattle.croner_scheduler.specs.Private.Steps.{next_of_run, next_of_refusal, IsSecondBefore, job_at_position, job_standing_at, is_next_at, is_next_after, job_with_next, again_of, refusal_of};
 
 use crate::Again;
 use croner::errors::CronError;
@@ -138,6 +138,16 @@ impl<J, T> Waiting<J, T> {
         ensures { result ≡ is_some (stop_of self.now.next) }
     {
         self.next.is_stopped()
+    }
+
+    // Whether its next run is at a second.
+    pub(crate) fn runs_at(&self, second: i64) -> bool
+        ensures { result ≡ is_next_at second self.now.next }
+    {
+        match self.next {
+            Next::Run(run) => run == second,
+            Next::Over | Next::Stopped(_) => false,
+        }
     }
 
     // The job and its position.
