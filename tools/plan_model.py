@@ -77,7 +77,14 @@ def warnings_of(text, is_system):
 
 
 def title_of_comment(text):
-    return text.lstrip(b" \t").lstrip(b"#").strip(b" \t")
+    title = text.lstrip(b" \t").lstrip(b"#").strip(b" \t")
+    return b"" if begins_as_job(title) else title
+
+
+def begins_as_job(text):
+    """Whether its first word may be the minutes of a job, or is a nickname."""
+    word = re.split(rb"[ \t]", text)[0]
+    return text.startswith(b"@") or word == b"*" or bool(re.fullmatch(rb"[0-9*,/-]*[0-9][0-9*,/-]*", word))
 
 
 def title_of_command(command):

@@ -74,7 +74,7 @@ def judge_top(tally, what, case, plan, sections):
     tally.take(f"{what}: first lines", [plain(it.text()) for it in sections.top if it.name == "p"][:1], [f"{span}: {jobs}, with {starts} shown."])
     wanted = [f"{shown(plan.jobs[place].title)} {plan_texts.many(count)}" for place, count in plan.left_out]
     tally.take(f"{what}: left out", sections.lines("Not shown, since they start too often"), list(map(plain, wanted)))
-    tally.take(f"{what}: ignored", sections.lines("Cron ignores"), ignored_lines(case))
+    tally.take(f"{what}: ignored", sections.lines("Not in this plan"), ignored_lines(case))
 
 
 def beside_words(plan):

@@ -129,7 +129,7 @@ fn check_in_named_zone(
         let system = SystemTimeZone::read(rt).map_err(Problem::Zone)?;
         return check_in_zone_of_system(rt, call, zones, &system);
     }
-    let zone = named_zone(rt, zones, call.zone)?;
+    let zone = named_zone(rt, zones, "--zone", call.zone)?;
     check(rt, call, zone)
 }
 
@@ -143,15 +143,16 @@ fn check_in_zone_of_system(
     check(rt, call, zone)
 }
 
-// The zone of a name.
+// The zone of a name, which is the word of an option.
 fn named_zone<'z>(
     rt: &HostRuntime,
     zones: &'z TimeZoneDatabase,
+    option: &str,
     name: &str,
 ) -> Result<TimeZone<'z>, Problem> {
     match zones.get(name) {
         Ok(zone) => Ok(zone),
-        Err(jiff::Error::TimeZoneNotFound) => Err(problem_of_no_zone(rt, zones, name)),
+        Err(jiff::Error::TimeZoneNotFound) => Err(problem_of_no_zone(rt, zones, option, name)),
         Err(error) => Err(Problem::Zone(error)),
     }
 }
@@ -255,9 +256,14 @@ fn check_in_ruled_zone(
     check(rt, call, zone)
 }
 
-// What is wrong with the word of a zone that is none.
-fn problem_of_no_zone(rt: &HostRuntime, zones: &TimeZoneDatabase, word: &str) -> Problem {
-    match zone_refusal(rt, zones, word) {
+// What is wrong with the word of an option that is no zone.
+fn problem_of_no_zone(
+    rt: &HostRuntime,
+    zones: &TimeZoneDatabase,
+    option: &str,
+    word: &str,
+) -> Problem {
+    match zone_refusal(rt, zones, option, word) {
         Ok(text) => Problem::NoZone(text),
         Err(_) => Problem::OutOfMemory,
     }
@@ -267,9 +273,10 @@ fn problem_of_no_zone(rt: &HostRuntime, zones: &TimeZoneDatabase, word: &str) ->
 fn zone_refusal(
     rt: &HostRuntime,
     zones: &TimeZoneDatabase,
+    option: &str,
     word: &str,
 ) -> Result<String, AllocError> {
-    let mut text = refusal_of(rt.alloc(), word)?;
+    let mut text = refusal_of(rt.alloc(), option, word)?;
     if let Some(name) = zones.available().find(|name| is_zone_of(name, word)) {
         write!(&mut text, "; the zone of that place is {name}")?;
     }
@@ -311,7 +318,7 @@ fn check_beside_named_zone(
         let system = SystemTimeZone::read(rt).map_err(Problem::Zone)?;
         return check_beside_zone_of_system(rt, call, zone, zones, &system);
     }
-    let other = named_zone(rt, zones, word)?;
+    let other = named_zone(rt, zones, "--show-zone", word)?;
     check_in(rt, call, zone, Some(other))
 }
 

@@ -13,7 +13,7 @@ use croncheck_reading::sink::Sink;
 use croncheck_report::shared::Shared;
 use croncheck_runs::clock::NoClock;
 use croner_base::time::CivilDateTime;
-use cronplan_forms::{FileAsked, Naming, PlanAsked, Signs};
+use cronplan_forms::{FileAsked, MOST_EVENTS, Naming, PlanAsked, Signs};
 use cronplan_page::Line as PageLine;
 use crontab::line::Dialect;
 use jiff::Timestamp;
@@ -179,11 +179,13 @@ fn write_calendar(
         return Err(Problem::OutOfMemory);
     };
     write_text(rt, call, file.text.as_str())?;
-    Ok(if file.is_cut {
-        taken.status.max(1)
-    } else {
-        taken.status
-    })
+    if !file.is_cut {
+        return Ok(taken.status);
+    }
+    let _ = eprintln!(rt;
+        "croncheck: the calendar has the first {MOST_EVENTS} starts alone: take a nearer --until, or a lower --most-a-day"
+    );
+    Ok(taken.status.max(1))
 }
 
 // Writes the page of the files' jobs, with what cron ignores, as it was told.

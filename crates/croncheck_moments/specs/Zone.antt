@@ -181,9 +181,9 @@ fault_of_rest word = match_some (without_front (codes ":") word) (fault_of_parts
 abbrev pub fault_of_word : List ℕ → List ℕ
 fault_of_word word = match_some (without_front (codes "TZ=") word) (fault_of_rest word) fault_of_setting
 
--- what is told of a word that is no zone
-abbrev pub refusal_text : List ℕ → List ℕ
-refusal_text word = codes "--zone: " ++ (quote_text word ++ fault_of_word word)
+-- what is told of the word of an option that is no zone
+abbrev pub refusal_text : List ℕ → List ℕ → List ℕ
+refusal_text option word = option ++ (codes ": " ++ (quote_text word ++ fault_of_word word))
 
 -- ---- a rule that is easily taken for another
 

@@ -62,14 +62,14 @@ pub enum ZoneFault<'w> {
     Time(Quote<'w>),
 }
 
-/// What is told of the word of a zone that is neither a rule nor a name of the database: the word, what is wrong with it, and what to
-/// write. The only error is lack of memory.
-pub fn refusal_of(alloc: Global, word: &str) -> Result<String, AllocError>
-    ensures { IfOk result (λ text. string_bytes text ≡ refusal_text word.now) }
+/// What is told of the word of an option that asks for a zone, as `--zone`, if the word is neither a rule nor a name of the database: the
+/// option, the word, what is wrong with it, and what to write. The only error is lack of memory.
+pub fn refusal_of(alloc: Global, option: &str, word: &str) -> Result<String, AllocError>
+    ensures { IfOk result (λ text. string_bytes text ≡ refusal_text option.now word.now) }
 {
     let fault = fault_of(alloc, word)?;
     let word = Quote { text: word };
-    format!(in alloc; "--zone: {word}{fault}")
+    format!(in alloc; "{option}: {word}{fault}")
 }
 
 // What is wrong with the word of a zone.

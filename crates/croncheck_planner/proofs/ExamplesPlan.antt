@@ -26,6 +26,23 @@ a_comment = refl
 an_empty_comment : heading comment (codes "#") ≡ Some []
 an_empty_comment = refl
 
+-- a job that was taken out: its command may hold a password
+a_job_taken_out : heading comment (codes "#0 3 * * * mysqldump -phunter2 app") ≡ Some []
+a_job_taken_out = refl
+
+one_of_each_minute : heading comment (codes "# */5 * * * * root poll --key hunter2") ≡ Some []
+one_of_each_minute = refl
+
+one_by_a_nickname : heading comment (codes "## @daily sync --key hunter2") ≡ Some []
+one_by_a_nickname = refl
+
+-- a word with a letter, and a line of dashes, are no minutes
+a_time_of_the_day : heading comment (codes "# 3am: nightly") ≡ Some (codes "3am: nightly")
+a_time_of_the_day = refl
+
+dashes : heading comment (codes "# -- nightly --") ≡ Some (codes "-- nightly --")
+dashes = refl
+
 -- it leaves what stands above it
 what_is_allowed : heading comment (codes "# croncheck: allow gap") ≡ None
 what_is_allowed = refl

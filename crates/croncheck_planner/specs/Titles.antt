@@ -1,6 +1,6 @@
 -- What jobs are called in a plan. Source: docs/CRONTAB.md ("A plan").
-use Rattle.std.specs.Prelude.{ℕ, ◌==◌, ◌-◌, Bool, not, List, [], ◌∷◌, length, drop, Option, Some, None, if◌then◌else◌}
-use Rattle.std.specs.List.{list_any, prefix_len, suffix_len}
+use Rattle.std.specs.Prelude.{ℕ, ◌==◌, ◌-◌, ◌&&◌, ◌||◌, Bool, true, false, not, nat_le, List, [], ◌∷◌, length, drop, Option, Some, None, if◌then◌else◌}
+use Rattle.std.specs.List.{list_all, list_any, prefix_len, suffix_len}
 use Rattle.crontab.specs.declared.bytes.Kind.TheVariants as kinds
 use Rattle.crontab.specs.Bytes.{front, text_after, trim_end}
 use Rattle.crontab.specs.Line.{Line, Task, blank, comment, setting, job, pattern, refused}
@@ -11,6 +11,17 @@ use Rattle.croncheck_report.specs.Allowed.{list_in}
 abbrev pub is_hash : ℕ → Bool
 is_hash b = b == 35
 
+-- a lone star
+abbrev pub is_star : List ℕ → Bool
+is_star [] = false
+is_star (b ∷ []) = b == 42
+is_star (b ∷ c ∷ bs) = false
+
+-- an at sign stands in front
+abbrev pub is_at : List ℕ → Bool
+is_at [] = false
+is_at (b ∷ bs) = b == 64
+
 abbrev pub without_hashes : List ℕ → List ℕ
 without_hashes text = drop (prefix_len is_hash text) text
 
@@ -18,9 +29,28 @@ without_hashes text = drop (prefix_len is_hash text) text
 abbrev pub comment_text : List ℕ → List ℕ
 comment_text line = trim_end (text_after kinds.Blank (without_hashes (text_after kinds.Blank line)))
 
+abbrev pub is_digit : ℕ → Bool
+is_digit b = nat_le 48 b && nat_le b 57
+
+-- a digit, or one of `*`, `,`, `-` and `/`
+abbrev pub is_of_field : ℕ → Bool
+is_of_field b = is_digit b || (b == 42 || (b == 44 || (b == 45 || b == 47)))
+
+-- a star, or a word of such bytes with a digit: the minutes of a job
+abbrev pub is_field : List ℕ → Bool
+is_field word = list_all is_of_field word && (is_star word || list_any is_digit word)
+
+-- a text begins with the minutes of a job, or with a nickname: it may be a job that was taken out, whose command may hold a password
+abbrev pub begins_as_job : List ℕ → Bool
+begins_as_job text = is_at text || is_field (front kinds.Word text)
+
+-- the text of a comment that doesn't begin as a job does
+abbrev pub title_text : List ℕ → List ℕ
+title_text text = if begins_as_job text then [] else text
+
 -- the title that a comment gives to the next line: one that allows something leaves what stands above it
 abbrev pub heading_unless : Option (List ℕ) → List ℕ → Option (List ℕ)
-heading_unless None line = Some (comment_text line)
+heading_unless None line = Some (title_text (comment_text line))
 heading_unless (Some list) line = None
 
 abbrev pub heading_of_comment : List ℕ → Option (List ℕ)

@@ -195,15 +195,19 @@ fn with_files<'w>(alloc: Global, command: Command<'w>) -> Result<Command<'w>, Al
     let command = add(command, calendar(alloc))?;
     let command = add(command, page(alloc))?;
     let command = add(command, json(alloc))?;
-    let command = add(
-        command,
-        value(alloc, "lasts", "LENGTH")
-            .help("With --ics: how long each event lasts, as 30m; else they tell no end")
-            .requires_arg("ics"),
-    )?;
+    let command = add(command, event_length(alloc))?;
     command.arg(value(alloc, "output", "FILE").help(
         "With --html, --ics or --json: writes it to this file, whole or not at all, and not to the output",
     ))
+}
+
+fn event_length<'w>(alloc: Global) -> Result<Arg<'w>, AllocError> {
+    let arg = value(alloc, "lasts", "LENGTH")
+        .help("With --ics: how long each event lasts, as 30m; else they tell no end")
+        .requires_arg("ics")?;
+    option_alone(arg)?
+        .conflicts_with("html")?
+        .conflicts_with("json")
 }
 
 fn calendar<'w>(alloc: Global) -> Result<Arg<'w>, AllocError> {

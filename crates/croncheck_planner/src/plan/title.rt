@@ -2,15 +2,15 @@
 ghost use Rattle.std.specs.Prelude.{◌≡◌, ◌≤◌, length, option_map, IfOk};
 ghost use Rattle.std.specs.List.{list_any, prefix_len, suffix_len};
 ghost use Rattle.crontab.specs.Entries.{entry_seen, job_seen};
-ghost use Rattle.croncheck_planner.specs.Titles.{is_hash, is_no_slash, without_hashes, comment_text, heading, heading_of_comment, is_equals, last_part, title_of_word, title_of_command, title_of_job, title_of};
+ghost use Rattle.croncheck_planner.specs.Titles.{is_hash, is_no_slash, is_digit, is_of_field, is_star, is_at, is_field, begins_as_job, title_text, without_hashes, comment_text, heading, heading_of_comment, is_equals, last_part, title_of_word, title_of_command, title_of_job, title_of};
 
 use croncheck_report::allowed::comment::list_in;
 use crontab::bytes::{Kind, cut, trim_end};
 use crontab::line::{Entry, Job, word};
 use std::alloc::{AllocError, Global};
 
-/// The title that a line gives to the next one: the text of a comment, or an empty one if the line isn't a comment. `None` for a comment
-/// that allows something: it leaves the title of the comment above it.
+/// The title that a line gives to the next one: the text of a comment, or an empty one if the line isn't a comment, or is one that begins
+/// as a job does. `None` for a comment that allows something: it leaves the title of the comment above it.
 ///
 /// The only error is lack of memory.
 pub(crate) fn heading_of(
@@ -37,8 +37,65 @@ fn heading_of_comment(alloc: Global, line: &[u8]) -> Result<Option<Vec<u8>>, All
         return Ok(None);
     }
     let mut text = Vec::new(alloc);
-    text.extend_from_slice(comment_text(line))?;
+    text.extend_from_slice(title_text(comment_text(line)))?;
     Ok(Some(text))
+}
+
+// A text that doesn't begin as a job does; else nothing, since it may be a job that was taken out, whose command may hold a password.
+fn title_text(text: &[u8]) -> &[u8]
+    ensures { result.now ≡ title_text text.now }
+{
+    if begins_as_job(text) { &[] } else { text }
+}
+
+// Whether a text begins with a nickname or with the minutes of a job.
+fn begins_as_job(text: &[u8]) -> bool
+    ensures { result ≡ begins_as_job text.now }
+{
+    is_at(text) || is_field(word(text).0)
+}
+
+fn is_at(text: &[u8]) -> bool
+    ensures { result ≡ is_at text.now }
+{
+    match text {
+        [first, ..] => *first == b'@',
+        [] => false,
+    }
+}
+
+// Whether a word is a star, or has a digit and nothing but what fields are made of.
+fn is_field(word: &[u8]) -> bool
+    ensures { result ≡ is_field word.now }
+{
+    word.iter().all(|byte| is_of_field(*byte)) && (is_star(word) || has_digit(word))
+}
+
+fn is_star(word: &[u8]) -> bool
+    ensures { result ≡ is_star word.now }
+{
+    match word {
+        [only] => *only == b'*',
+        [] | [_, _, ..] => false,
+    }
+}
+
+fn has_digit(word: &[u8]) -> bool
+    ensures { result ≡ list_any is_digit word.now }
+{
+    word.iter().any(|byte| is_digit(*byte))
+}
+
+fn is_of_field(byte: u8) -> bool
+    ensures { result ≡ is_of_field byte }
+{
+    is_digit(byte) || byte == b'*' || byte == b',' || byte == b'-' || byte == b'/'
+}
+
+fn is_digit(byte: u8) -> bool
+    ensures { result ≡ is_digit byte }
+{
+    b'0' <= byte && byte <= b'9'
 }
 
 // The text of a comment: without the hashes in front, and the blanks around it.
