@@ -1,5 +1,5 @@
 -- Jobs that lack a start where the clock is put forward: one job more.
-use Rattle.std.proofs.Common.{◌≡◌, ◌⊎◌, ◌<◌, ◌≤◌, ◌+◌, ◌∙◌, ℕ, List, [], ◌∷◌, ◌++◌, Option, inl, inr, refl, sym, ap, subst, absurd, arith, rules, length, get_or}
+use Rattle.std.proofs.Common.{◌≡◌, ◌⊎◌, ◌<◌, ◌≤◌, ◌+◌, ◌∙◌, ℕ, List, [], ◌∷◌, ◌++◌, Option, inl, inr, refl, sym, ap, subst, arith, rules, length, get_or}
 use Rattle.std.proofs.lemmas.Bool.{cases_lt}
 use Rattle.std.proofs.lemmas.List.{get_or_append_left, get_or_default, get_or_push, length-append, append-nil, append_assoc}
 use Rattle.croner_base.specs.declared.time.table.TableTime.{TableTime}
@@ -15,12 +15,12 @@ pub record LookedAt (start : TableTime) (jobs : List Schedule) (k : ℕ) (droppe
   pub gaps_are : (place : ℕ) (job : Schedule) (met : Option Met) → place < k → IsGapOf start (get_or jobs place job) (get_or mets place met)
   pub dropped_are : dropped ≡ dropped_from 0 mets
 
-pub none_looked_at : (start : TableTime) (jobs : List Schedule) → LookedAt start jobs 0 []
-none_looked_at start jobs = record {
+pub none_looked_at : (start : TableTime) (jobs : List Schedule) (dropped : List Dropped) → dropped ≡ [] → LookedAt start jobs 0 dropped
+none_looked_at start jobs dropped none = record {
   mets = [];
   count = refl;
   gaps_are = λ place job met below. absurd (omega (arith, below));
-  dropped_are = refl;
+  dropped_are = none;
 }
 
 -- one job more comes last
@@ -55,14 +55,16 @@ module _ (start : TableTime) (jobs : List Schedule) (k : ℕ) (old : List Droppe
   pub next_job : (new : List Dropped) (job : Schedule) → k < length jobs → job ≡ get_or jobs k job
       → ((met : Option Met) × IsGapOf start job met × (new ≡ old ++ dropped_by k met))
       → LookedAt start jobs (k + 1) new
-  next_job new job within is met = record {
-    mets = looked.mets ++ met.0 ∷ [];
-    count = length-append looked.mets (met.0 ∷ []) ∙ ap (λ n. n + 1) looked.count;
-    gaps_are = λ place other other_met below. gap_at met.0 job within is met.1 place other other_met below (cases_lt place k);
-    dropped_are = met.2
-        ∙ (ap (λ (l : List Dropped). l ++ dropped_by k met.0) looked.dropped_are
-        ∙ (ap (λ (n : ℕ). dropped_from 0 looked.mets ++ dropped_by n met.0) (sym looked.count) ∙ sym (dropped_more 0 looked.mets met.0)));
-  }
+  next_job new job within is met =
+      let place : k ≡ 0 + length looked.mets = omega (arith, looked.count) in
+      record {
+        mets = looked.mets ++ met.0 ∷ [];
+        count = length-append looked.mets (met.0 ∷ []) ∙ ap (λ n. n + 1) looked.count;
+        gaps_are = λ at other other_met below. gap_at met.0 job within is met.1 at other other_met below (cases_lt at k);
+        dropped_are = met.2
+            ∙ (ap (λ (l : List Dropped). l ++ dropped_by k met.0) looked.dropped_are
+            ∙ (ap (λ (n : ℕ). dropped_from 0 looked.mets ++ dropped_by n met.0) place ∙ sym (dropped_more 0 looked.mets met.0)));
+      }
 
   pub all_jobs : length jobs ≡ k → AreDropped start jobs old
   all_jobs all = (

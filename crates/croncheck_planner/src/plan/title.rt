@@ -1,6 +1,6 @@
 //! What a job is called in a plan.
 ghost use Rattle.std.specs.Prelude.{◌≡◌, ◌≤◌, length, option_map, IfOk};
-ghost use Rattle.std.specs.List.{list_any, prefix_len, suffix_len};
+ghost use Rattle.std.specs.List.{list_all, list_any, prefix_len, suffix_len};
 ghost use Rattle.crontab.specs.Entries.{entry_seen, job_seen};
 ghost use Rattle.croncheck_planner.specs.Titles.{is_hash, is_no_slash, is_digit, is_of_field, is_star, is_at, is_field, begins_as_job, title_text, without_hashes, comment_text, heading, heading_of_comment, is_equals, last_part, title_of_word, title_of_command, title_of_job, title_of};
 
@@ -68,7 +68,13 @@ fn is_at(text: &[u8]) -> bool
 fn is_field(word: &[u8]) -> bool
     ensures { result ≡ is_field word.now }
 {
-    word.iter().all(|byte| is_of_field(*byte)) && (is_star(word) || has_digit(word))
+    is_made_for_field(word) && (is_star(word) || has_digit(word))
+}
+
+fn is_made_for_field(word: &[u8]) -> bool
+    ensures { result ≡ list_all is_of_field word.now }
+{
+    word.iter().all(|byte| is_of_field(*byte))
 }
 
 fn is_star(word: &[u8]) -> bool

@@ -4,7 +4,7 @@ use Rattle.croncheck_planner.proofs.DroppedJobs.{all_jobs, next_job, none_looked
 use Rattle.croncheck_planner.proofs.plan.dropped.dropped_of.Goals as goal
 
 pub loop-place-init : goal.loop-place-init
-loop-place-init c = none_looked_at (start_of c.args.settings.now) c.args.jobs.now
+loop-place-init c = none_looked_at (start_of c.args.settings.now) c.args.jobs.now c.new-dropped.result.items (search rules)
 
 pub loop-place-preserved : goal.loop-place-preserved
 loop-place-preserved c =
