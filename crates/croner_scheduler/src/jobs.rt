@@ -11,20 +11,12 @@ ghost use Rattle.croner_scheduler.specs.Private.Places.{entries_in, AreInRow, Pu
 ghost use Rattle.croner_scheduler.specs.Private.Steps.{jobs_with, job_at_position, job_standing_at, job_with_next, is_awaited_at, ArePartsOf};
 
 use crate::iter::Iter;
+use crate::room::{GONE_PART, LEAST_ROOM, ROOM_PART};
 use crate::turns::Turn;
 use crate::waiting::{Next, Waiting};
 use std::alloc::{AllocError, Global};
 use std::marker::Model;
 use std::mem;
-
-// Where there is no room for another place, the empty ones are taken out, if an eighth of the places is empty, or room is taken for a
-// sixteenth besides.
-const EMPTY_PART: usize = 8;
-
-const ROOM_PART: usize = 16;
-
-// And this many besides, so that some room is taken where there are few.
-const LEAST_ROOM: usize = 4;
 
 // Jobs under ids that rise. Each id that was given has a place, in the order of the ids, and that of a job that was removed is empty.
 // Empty places are taken out where another job needs room and an eighth of the places is empty: so there are few of them, and a job costs
@@ -293,7 +285,7 @@ fn thin_out<J: Drop, T: Drop>(
     requires { length ids.old.items ≡ length places.old.items }
     ensures { AreInRow ids.old.items places.old.items ids.new.items places.new.items }
 {
-    if places.len() < places.capacity() || places.len() - places.len() / EMPTY_PART < count {
+    if places.len() < places.capacity() || places.len() - places.len() / GONE_PART < count {
         return;
     }
     take_out_empty(ids, places);

@@ -6,18 +6,11 @@ ghost use Rattle.croner_scheduler.specs.Ids.{job_of};
 ghost use Rattle.croner_scheduler.specs.Private.Turns.{heap_cmp, has_turn, is_next_turn, top_of, IsFirstTurn, AreListed, AreListedBut, AreTurnsOf};
 
 use crate::jobs::Jobs;
+use crate::room::{GONE_PART, LEAST_ROOM, ROOM_PART};
 use crate::waiting::Next;
 use std::alloc::AllocError;
 use std::cmp::Reverse;
 use std::collections::BinaryHeap;
-
-// Where there is no room for another turn, the turns are put anew, if an eighth of them is of no job, or room is taken for a sixteenth besides.
-const STALE_PART: usize = 8;
-
-const ROOM_PART: usize = 16;
-
-// And for so many besides, so that some room is taken where there are few.
-const LEAST_ROOM: usize = 4;
 
 /// A run that is given: of which job, when, and whether the job is stopped.
 #[derive(Debug, Clone, Copy, PartialEq, Eq)]
@@ -88,7 +81,7 @@ fn thin_out<J, T>(turns: &mut Turns, jobs: &Jobs<J, T>)
     requires { AreTurnsOf (job_of jobs.now) (heap_items turns.old) }
     ensures { AreTurnsOf (job_of jobs.now) (heap_items turns.new) }
 {
-    if turns.len() < turns.capacity() || turns.len() - turns.len() / STALE_PART < jobs.len() {
+    if turns.len() < turns.capacity() || turns.len() - turns.len() / GONE_PART < jobs.len() {
         return;
     }
     put_anew(turns, jobs);
