@@ -5,6 +5,7 @@ pub use Rattle.croner_base.specs.Civil
 pub use Rattle.croner_base.specs.CivilZone
 pub use Rattle.croner_base.specs.Clocked
 pub use Rattle.croner_base.specs.Field
+pub use Rattle.croner_base.specs.HeldSeconds
 pub use Rattle.croner_base.specs.Limits
 pub use Rattle.croner_base.specs.Table
 pub use Rattle.croner_base.specs.TableZone

@@ -34,7 +34,7 @@ pub record IsRunFound (direction : Direction) (runs : Zone → ℤ → Type 0) (
 pub record IsRunRefused (lack : Bool) (direction : Direction) (runs : Zone → ℤ → Type 0) (start : Moment) (e : CronError) : Type 0 where
   -- in a calm zone and from a whole second the limit says that no run that counts is left in the span
   pub limit : StartsCalm start → e ≡ TimeSearchLimitExceeded → NoneInSpanWhere direction start.zone.reads (CountsFrom direction (runs start.zone) start.instant)
-  -- where the backend also holds what a search needs, it is the limit or want of memory
+  -- where the backend also holds what a search needs, it is the limit or lack of memory
   pub promised : IsSearchable start → IsLimitOrMemory lack e
-  -- in every zone it is the limit, InvalidDate, InvalidTime, or want of memory
+  -- in every zone it is the limit, InvalidDate, InvalidTime, or lack of memory
   pub kind : IsRefusal lack e

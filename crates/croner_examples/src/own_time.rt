@@ -3,7 +3,7 @@ ghost use Rattle.std.specs.Prelude.{◌≡◌, false};
 
 use croner::errors::CronError;
 use croner::time::table::TableTime;
-use croner::{CivilDateTime, CronDateTime, Resolution, Weekday};
+use croner::{CivilDateTime, Clocked, CronDateTime, Resolution, Weekday};
 use std::alloc::Global;
 use std::cmp::Ordering;
 
@@ -76,4 +76,22 @@ impl<'t> CronDateTime for OfficeTime<'t> {
     ghost clone_keeps = { λ a b e. ap office_moment e };
 
     ghost clone_memory = { λ a h. tt };
+}
+
+/// The seconds of the table: so it can be a job's position in a scheduler.
+impl<'t> Clocked for OfficeTime<'t> {
+    ghost use Rattle.croner.specs.HeldSeconds.{table_held};
+
+    fn second(&self) -> i64 {
+        self.time.second()
+    }
+
+    fn at_second(&self, second: i64) -> Option<OfficeTime<'t>> {
+        match self.time.at_second(second) {
+            Some(time) => Some(self.at(time)),
+            None => None,
+        }
+    }
+
+    ghost holds_its_second = { λ t. table_held t.time };
 }

@@ -270,8 +270,8 @@ fn standing<T: Clocked>(alloc: Global, id: u64, waiting: &Waiting<FlakyJob, T>) 
 }
 
 fn what_comes_next<T: Clocked>(alloc: Global, waiting: &Waiting<FlakyJob, T>) -> Result<Value> {
-    match (waiting.next_run(), waiting.stop()) {
-        (Some(run), _) => Ok(Value::from(run.second())),
+    match (waiting.next_second(), waiting.stop()) {
+        (Some(second), _) => Ok(Value::from(second)),
         (None, Some(stop)) => shown_stop(alloc, stop),
         (None, None) => Ok(Value::Null),
     }

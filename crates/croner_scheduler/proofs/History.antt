@@ -87,7 +87,7 @@ module _ {J : Type 0} (runs : J → Zone → ℤ → Type 0) where
     stop = λ why. why;
     ordered = λ i j d lt within. absurd (omega (arith, within));
     between = All-nil _;
-    behind = λ i over. absurd (never i over);
+    passed_between = λ i over. absurd (never i over);
     apart = All-nil _;
     are_runs = λ calm. All-nil _;
     either = λ calm i left. inr (inr left);
@@ -106,14 +106,14 @@ module _ {J : Type 0} (runs : J → Zone → ℤ → Type 0) where
         → (IsCalm s.position.zone → All (λ j. ∥ runs s.job s.position.zone j ∥₁) items)
         → (IsCalm s.position.zone → (j : ℤ) → Left runs s j → j ≤ℤ i → Contains items j ⊎ passed j)
         → IsGivenBetween runs s s' items passed
-    moved items ordered between behind apart are_runs met = record {
+    moved items ordered between passed_between apart are_runs met = record {
       job_is = stands.job_is;
       zone_is = stands.zone_is;
       on = subst (λ z. s.position.instant ≤ℤ z) (sym stands.instant) on;
       stop = λ why. stands.stop;
       ordered = ordered;
       between = subst (λ z. All (λ j. (s.position.instant <ℤ j) × (j ≤ℤ z)) items) (sym stands.instant) between;
-      behind = subst (λ z. (j : ℤ) → passed j → (s.position.instant <ℤ j) × (j ≤ℤ z)) (sym stands.instant) behind;
+      passed_between = subst (λ z. (j : ℤ) → passed j → (s.position.instant <ℤ j) × (j ≤ℤ z)) (sym stands.instant) passed_between;
       apart = apart;
       are_runs = are_runs;
       either = λ calm j left. elim (up_to j i) [
@@ -126,10 +126,10 @@ module _ {J : Type 0} (runs : J → Zone → ℤ → Type 0) where
     one : s.position.instant <ℤ i → ((j : ℤ) → passed j → (s.position.instant <ℤ j) × (j <ℤ i)) → (IsCalm s.position.zone → ∥ runs s.job s.position.zone i ∥₁)
         → (IsCalm s.position.zone → (j : ℤ) → Left runs s j → j <ℤ i → passed j)
         → IsGivenBetween runs s s' (i ∷ []) passed
-    one after behind run before = moved (i ∷ []) (one_ordered i)
+    one after passed_between run before = moved (i ∷ []) (one_ordered i)
         (All-cons (λ j. (s.position.instant <ℤ j) × (j ≤ℤ i)) i [] (after, omega (arith, ints)) (All-nil _))
-        (λ j over. ((behind j over).0, omega (arith, ints, (behind j over).1)))
-        (All-cons (λ j. ¬ (passed j)) i [] (λ over. omega (arith, ints, (behind i over).1)) (All-nil _))
+        (λ j over. ((passed_between j over).0, omega (arith, ints, (passed_between j over).1)))
+        (All-cons (λ j. ¬ (passed j)) i [] (λ over. omega (arith, ints, (passed_between i over).1)) (All-nil _))
         (λ calm. All-cons (λ j. ∥ runs s.job s.position.zone j ∥₁) i [] (run calm) (All-nil _))
         (λ calm j left le. by calm j left le (int_cmp j i) (int_ranked j i _ refl))
       where
@@ -141,7 +141,7 @@ module _ {J : Type 0} (runs : J → Zone → ℤ → Type 0) where
     -- none is
     none : ((j : ℤ) → passed j → (s.position.instant <ℤ j) × (j ≤ℤ i)) → (IsCalm s.position.zone → (j : ℤ) → Left runs s j → j ≤ℤ i → passed j)
         → IsGivenBetween runs s s' [] passed
-    none behind over = moved [] (λ a b d lt within. absurd (omega (arith, within))) (All-nil _) behind (All-nil _) (λ calm. All-nil _) (λ calm j left le. inr (over calm j left le))
+    none passed_between over = moved [] (λ a b d lt within. absurd (omega (arith, within))) (All-nil _) passed_between (All-nil _) (λ calm. All-nil _) (λ calm j left le. inr (over calm j left le))
 
   -- what was given between two, and then up to a third
   module _ (s s1 s2 : Standing J) (items more : List ℤ) (P Q : ℤ → Type 0) (a : IsGivenBetween runs s s1 items P) (b : IsGivenBetween runs s1 s2 more Q) where
@@ -158,17 +158,17 @@ module _ {J : Type 0} (runs : J → Zone → ℤ → Type 0) where
           (All-weaker (In s s1) (λ i. All (λ j. i <ℤ j) more) (λ i h. All-weaker (In s1 s2) (λ j. i <ℤ j) (λ j g. omega (arith, ints, h.1, g.0)) more b.between) items a.between);
       between = All-append (In s s2) items more (All-weaker (In s s1) (In s s2) (λ i h. (h.0, omega (arith, ints, h.1, b.on))) items a.between)
           (All-weaker (In s1 s2) (In s s2) (λ i h. (omega (arith, ints, h.0, a.on), h.1)) more b.between);
-      behind = λ i over. elim over [
-        | inl p ↦ ((a.behind i p).0, omega (arith, ints, (a.behind i p).1, b.on))
-        | inr q ↦ (omega (arith, ints, (b.behind i q).0, a.on), (b.behind i q).1)
+      passed_between = λ i over. elim over [
+        | inl p ↦ ((a.passed_between i p).0, omega (arith, ints, (a.passed_between i p).1, b.on))
+        | inr q ↦ (omega (arith, ints, (b.passed_between i q).0, a.on), (b.passed_between i q).1)
       ];
       apart = All-append (λ j. ¬ (P j ⊎ Q j)) items more
           (λ n d lt over. elim over [
             | inl p ↦ a.apart n d lt p
-            | inr q ↦ omega (arith, ints, (a.between n d lt).1, (b.behind _ q).0)
+            | inr q ↦ omega (arith, ints, (a.between n d lt).1, (b.passed_between _ q).0)
           ])
           (λ n d lt over. elim over [
-            | inl p ↦ omega (arith, ints, (b.between n d lt).0, (a.behind _ p).1)
+            | inl p ↦ omega (arith, ints, (b.between n d lt).0, (a.passed_between _ p).1)
             | inr q ↦ b.apart n d lt q
           ]);
       are_runs = λ calm. All-append (λ i. ∥ runs s.job s.position.zone i ∥₁) items more (a.are_runs calm)
@@ -324,14 +324,14 @@ module _ {J : Type 0} (runs : J → Zone → ℤ → Type 0) where
           let later : now <ℤ i = at_some (IsNotDue runs now) (h'.jobs k) s' there (none.0 k) goes_on still_calm i seen in
           omega (arith, ints, later, le));
       first = λ now d after takes. met (λ i. (i <ℤ d.second) ⊎ ((i ≡ d.second) × (k < d.id))) (λ i seen holds.
-          let behind = at_some (ComesAfter runs d.id d.second k) (h'.jobs k) s' there (takes.0.first k) goes_on still_calm i seen in
+          let comes_after = at_some (ComesAfter runs d.id d.second k) (h'.jobs k) s' there (takes.0.first k) goes_on still_calm i seen in
           elim holds [
-            | inl lt ↦ omega (arith, ints, behind.0, lt)
-            | inr at ↦ omega (arith, behind.1 at.0, at.1)
+            | inl lt ↦ omega (arith, ints, comes_after.0, lt)
+            | inr at ↦ omega (arith, comes_after.1 at.0, at.1)
           ]);
       wake_up = λ second wakes. met (λ i. i <ℤ second) (λ i seen lt.
-          let behind = at_some (ComesAfter runs wakes.0 second k) (h'.jobs k) s' there (wakes.1.first k) goes_on still_calm i seen in
-          omega (arith, ints, behind.0, lt));
+          let comes_after = at_some (ComesAfter runs wakes.0 second k) (h'.jobs k) s' there (wakes.1.first k) goes_on still_calm i seen in
+          omega (arith, ints, comes_after.0, lt));
       over = λ none. met (λ i. ⊤) (λ i seen _. at_some (HasNoneSeen runs) (h'.jobs k) s' there (none k) goes_on still_calm i seen);
     }
 

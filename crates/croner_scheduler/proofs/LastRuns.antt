@@ -1,5 +1,5 @@
 -- The last run of a job that is due is what its search backward answers.
-use Rattle.std.proofs.Common.{rules, ◌≡◌, refl, sym, ap, subst, arith, ℕ, ℤ, ◌<ℤ◌, ◌≤ℤ◌, int_lt, int_le, Bool, true, false, cond, Option, None, Some, IfOk, IfSome, option_map}
+use Rattle.std.proofs.Common.{rules, ◌≡◌, refl, sym, ap, subst, arith, ℕ, ℤ, ◌<ℤ◌, ◌≤ℤ◌, int_lt, int_le, Bool, true, false, cond, Option, None, Some, IfOk, IfSome}
 use Rattle.std.proofs.Math.Logic.{∥∥₁_elim, ∥∥₁_map}
 use Rattle.std.proofs.Props.{props}
 use Rattle.std.proofs.lemmas.Bool.{false≢true}
@@ -22,15 +22,15 @@ use Rattle.croner_scheduler.specs.declared.waiting.Next.{Next}
 use Rattle.croner_scheduler.specs.declared.waiting.Next.TheVariants.{Run, Over, Stopped}
 use Rattle.croner_scheduler.specs.declared.waiting.Waiting.{Waiting}
 use Rattle.croner_scheduler.specs.Calls.{IsNotDue, IsLastDue, IsToTake, TakesLatest}
-use Rattle.croner_scheduler.specs.Kept.{StopsAt, FitsNext, Fits, standing_of, stop_of, run_of}
-use Rattle.croner_scheduler.specs.Private.Latest.{due_run, last_of_run, last_of_refusal, FitsLast, IsLastGiven}
+use Rattle.croner_scheduler.specs.Kept.{StopsAt, FitsNext, Fits, standing_of, stop_of, second_of}
+use Rattle.croner_scheduler.specs.Private.Latest.{due_second, last_of_run, last_of_refusal, FitsLast, IsLastGiven}
 use Rattle.croner_scheduler.specs.Private.Steps.{is_next_at, is_awaited_at}
 use Rattle.croner_scheduler.specs.Standing.{Standing, Held}
 use Rattle.croner_scheduler.proofs.Nearest.{seen_before, same_second, is_itself}
 use Rattle.croner_scheduler.proofs.NextRuns.{not_promised}
 
-module _ {T : Type 0} (runs : Zone → ℤ → Type 0) (moment : T → Moment) (next until : T) where
-  found_by : (found : T) (b d : Bool) → int_lt (moment next).instant (moment found).instant ≡ b → int_le (moment found).instant (moment until).instant ≡ d
+module _ {T : Type 0} (runs : Zone → ℤ → Type 0) (moment : T → Moment) (next : ℤ) (until : T) where
+  found_by : (found : T) (b d : Bool) → int_lt next (moment found).instant ≡ b → int_le (moment found).instant (moment until).instant ≡ d
       → IsRunFound Backward runs (moment until) (moment found)
       → FitsLast runs moment next (moment until) (last_of_run moment next until found)
   found_by found true true e f is = rw e (rw f (is, search (rules, e), search (rules, f)))
@@ -40,12 +40,12 @@ module _ {T : Type 0} (runs : Zone → ℤ → Type 0) (moment : T → Moment) (
       apart e le = search (rules, e, le)
   found_by found false d e f is = rw e (λ calm j counted span. near e (omega (arith, ints, (is.nearest calm).nearest j counted)))
     where
-      near : {j : ℤ} → int_lt (moment next).instant (moment found).instant ≡ false → j ≤ℤ (moment found).instant → j ≤ℤ (moment next).instant
+      near : {j : ℤ} → int_lt next (moment found).instant ≡ false → j ≤ℤ (moment found).instant → j ≤ℤ next
       near e le = search (rules, e, le)
 
   pub last_found : (found : T) → IsRunFound Backward runs (moment until) (moment found)
       → FitsLast runs moment next (moment until) (last_of_run moment next until found)
-  last_found found = found_by found (int_lt (moment next).instant (moment found).instant) (int_le (moment found).instant (moment until).instant) refl refl
+  last_found found = found_by found (int_lt next (moment found).instant) (int_le (moment found).instant (moment until).instant) refl refl
 
   pub last_refused : (lack : Bool) (e : CronError) → IsRunRefused lack Backward runs (moment until) e
       → IfOk (last_of_refusal {T = T} e) (FitsLast runs moment next (moment until))
@@ -61,29 +61,29 @@ module _ {T : Type 0} (runs : Zone → ℤ → Type 0) (moment : T → Moment) (
 -- ---- what is given
 
 -- the next run that is due
-pub due_by : {T : Type 0} (moment : T → Moment) (now : ℤ) (n : Next T) (t : T) → due_run moment now n ≡ Some t → (n ≡ Run t) × ((moment t).instant ≤ℤ now)
-due_by moment now (Run u) t e = by (int_le (moment u).instant now) refl e
+pub due_by : (now : ℤ) (n : Next) (i : ℤ) → due_second now n ≡ Some i → (n ≡ Run i) × (i ≤ℤ now)
+due_by now (Run j) i e = by (int_le j now) refl e
   where
-    by : (b : Bool) → int_le (moment u).instant now ≡ b → (cond b (Some u) None) ≡ Some t → (Run u ≡ Run t) × ((moment t).instant ≤ℤ now)
+    by : (b : Bool) → int_le j now ≡ b → (cond b (Some j) None) ≡ Some i → (Run j ≡ Run i) × (i ≤ℤ now)
     by true le e = (cc, search (rules, le, e))
     by false le e = absurd (cc)
-due_by moment now Over t e = absurd (cc)
-due_by moment now (Stopped stop) t e = absurd (cc)
+due_by now Over i e = absurd (cc)
+due_by now (Stopped stop) i e = absurd (cc)
 
 module _ {J T : Type 0} (runs : J → Zone → ℤ → Type 0) (moment : T → Moment) (now : ℤ) where
   -- a job whose next run isn't due has none that is
-  module _ (w : Waiting J T) (fits : ∥ Fits runs moment w ∥₁) (none : due_run moment now w.next ≡ None) where
-    later_next : (n : Next T) → due_run moment now n ≡ None → (i : ℤ) → is_next_at moment i n ≡ true → now <ℤ i
-    later_next (Run u) e i at = subst (λ z. now <ℤ z) (same_second (moment u).instant i at) (by (int_le (moment u).instant now) refl e)
+  module _ (w : Waiting J T) (fits : ∥ Fits runs moment w ∥₁) (none : due_second now w.next ≡ None) where
+    later_next : (n : Next) → due_second now n ≡ None → (i : ℤ) → is_next_at i n ≡ true → now <ℤ i
+    later_next (Run j) e i at = subst (λ z. now <ℤ z) (same_second j i at) (by (int_le j now) refl e)
       where
-        by : (b : Bool) → int_le (moment u).instant now ≡ b → cond b (Some u) None ≡ None → now <ℤ (moment u).instant
+        by : (b : Bool) → int_le j now ≡ b → cond b (Some j) None ≡ None → now <ℤ j
         by true le e = absurd (cc)
         by false le e = search (rules, le)
     later_next Over e i at = absurd (false≢true at)
     later_next (Stopped stop) e i at = absurd (false≢true at)
 
-    later_shown : (n : Next T) → ((i : ℤ) → is_next_at moment i n ≡ true → now <ℤ i) → IfSome (option_map (λ t. (moment t).instant) (run_of n)) (λ n. now <ℤ n)
-    later_shown (Run u) later = later (moment u).instant (is_itself (moment u).instant)
+    later_shown : (n : Next) → ((i : ℤ) → is_next_at i n ≡ true → now <ℤ i) → IfSome (second_of n) (λ n. now <ℤ n)
+    later_shown (Run j) later = later j (is_itself j)
     later_shown Over later = tt
     later_shown (Stopped stop) later = tt
 
@@ -96,25 +96,24 @@ module _ {J T : Type 0} (runs : J → Zone → ℤ → Type 0) (moment : T → M
     )
 
   -- a job whose next run is due
-  module _ (w : Waiting J T) (fits : ∥ Fits runs moment w ∥₁) (t : T) (next : w.next ≡ Run t) (due : (moment t).instant ≤ℤ now) where
-    next_fits : Fits runs moment w → FitsNext (runs w.job) moment (moment w.position) (Run t)
-    next_fits f = subst (λ n. FitsNext (runs w.job) moment (moment w.position) n) next f.next
+  module _ (w : Waiting J T) (fits : ∥ Fits runs moment w ∥₁) (known : ℤ) (next : w.next ≡ Run known) (due : known ≤ℤ now) where
+    next_fits : Fits runs moment w → FitsNext (runs w.job) (moment w.position) (Run known)
+    next_fits f = subst (λ n. FitsNext (runs w.job) (moment w.position) n) next f.next
 
-    after_position : (moment w.position).instant <ℤ (moment t).instant
+    after_position : (moment w.position).instant <ℤ known
     after_position = ∥∥₁_elim fits (hlevel props) (λ f. (next_fits f).1)
 
-    -- its turn stands at its second
-    pub awaited : (o : Option (Waiting J T)) → o ≡ Some w → is_awaited_at moment (moment t).instant o ≡ true
-    awaited o there = subst (λ o. is_awaited_at moment (moment t).instant o ≡ true) (sym there)
-        (subst (λ n. is_next_at moment (moment t).instant n ≡ true) (sym next) (is_itself (moment t).instant))
+    -- it awaits its second
+    pub awaited : (o : Option (Waiting J T)) → o ≡ Some w → is_awaited_at known o ≡ true
+    awaited o there = subst (λ o. is_awaited_at known o ≡ true) (sym there) (subst (λ n. is_next_at known n ≡ true) (sym next) (is_itself known))
 
-    from_next : (i : ℤ) → (moment t).instant ≤ℤ i → IsSomeAnd (standing_of moment w).next (λ n. n ≤ℤ i)
-    from_next i le = subst (λ n. IsSomeAnd (option_map (λ t. (moment t).instant) (run_of n)) (λ n. n ≤ℤ i)) (sym next) le
+    from_next : (i : ℤ) → known ≤ℤ i → IsSomeAnd (standing_of moment w).next (λ n. n ≤ℤ i)
+    from_next i le = subst (λ n. IsSomeAnd (second_of n) (λ n. n ≤ℤ i)) (sym next) le
 
     starts : IsCalm (moment w.position).zone → StartsCalm (at_instant (moment w.position).zone now)
     starts calm = record { calm = calm; whole = refl }
 
-    later_last : (u : T) → FitsLast (runs w.job) moment t (at_instant (moment w.position).zone now) (lasts.Later u) → IsLastDue runs now (moment u).instant (standing_of moment w)
+    later_last : (u : T) → FitsLast (runs w.job) moment known (at_instant (moment w.position).zone now) (lasts.Later u) → IsLastDue runs now (moment u).instant (standing_of moment w)
     later_last u is = record {
       goes = ap stop_of next;
       after = omega (arith, ints, after_position, is.1);
@@ -124,12 +123,12 @@ module _ {J T : Type 0} (runs : J → Zone → ℤ → Type 0) (moment : T → M
       last = λ calm j left le span. omega (arith, ints, (is.0.nearest (starts calm)).nearest j (le, left.1));
     }
 
-    known_last : FitsLast (runs w.job) moment t (at_instant (moment w.position).zone now) lasts.Known → IsLastDue runs now (moment t).instant (standing_of moment w)
+    known_last : FitsLast (runs w.job) moment known (at_instant (moment w.position).zone now) lasts.Known → IsLastDue runs now known (standing_of moment w)
     known_last is = record {
       goes = ap stop_of next;
       after = after_position;
       due = due;
-      from = from_next (moment t).instant (omega (arith, ints));
+      from = from_next known (omega (arith, ints));
       run = λ calm. ∥∥₁_map fits (λ f. ((next_fits f).0.nearest (record { calm = calm; whole = f.whole })).counts.1);
       last = λ calm j left le span. is (starts calm) j (le, left.1) span;
     }
@@ -141,8 +140,8 @@ module _ {J T : Type 0} (runs : J → Zone → ℤ → Type 0) (moment : T → M
       pub to_take : IsSomeAnd (h.jobs id) (IsToTake now)
       to_take = own _ (from_next now due, held)
 
-      pub takes : (last : Last T) → FitsLast (runs w.job) moment t (at_instant (moment w.position).zone now) last
-          → (answer : Latest) → IsLastGiven moment h id (moment t).instant last h' answer → TakesLatest runs id now h h' answer
+      pub takes : (last : Last T) → FitsLast (runs w.job) moment known (at_instant (moment w.position).zone now) last
+          → (answer : Latest) → IsLastGiven moment h id known last h' answer → TakesLatest runs id now h h' answer
       takes (lasts.Later u) is (answers.Given i b) given = (own _ (subst (λ i. IsLastDue runs now i (standing_of moment w)) (sym given.0) (later_last u is), held), given.1)
       takes (lasts.Later u) is answers.NothingDue given = absurd given
       takes (lasts.Later u) is answers.NoJob given = absurd given

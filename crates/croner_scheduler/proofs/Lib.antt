@@ -2,12 +2,14 @@ pub mod Ids
 pub mod Places
 pub mod TakenOut
 pub mod TurnOrder
+pub mod TurnHeap
 pub mod NextRuns
 pub mod LastRuns
 pub mod Nearest
 pub mod Changes
 pub mod Puts
 pub mod Passed
+pub mod Given
 pub mod StopLists
 pub mod History
 pub mod Lives

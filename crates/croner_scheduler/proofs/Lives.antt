@@ -31,10 +31,10 @@ module _ {J : Type 0} (runs : J → Zone → ℤ → Type 0) where
       (first.0, start.0, second.0, first.2, start.2, second.2, second.1, given_append k before (Replace k job position ∷ after))
 
   pub gives_of_one_life : (h : Held J) → ((id : ℕ) → h.next_id ≤ id → h.jobs id ≡ None) → GivesOfOneLife runs h
-  gives_of_one_life h fresh before during behind k job position h' makes stay =
-      let first = cut before (Add job position k ∷ during ++ Remove k ∷ behind) h h' makes in
+  gives_of_one_life h fresh before during after k job position h' makes stay =
+      let first = cut before (Add job position k ∷ during ++ Remove k ∷ after) h h' makes in
       let added = first.2.1 in
-      let rest = cut during (Remove k ∷ behind) first.2.0 h' first.2.2 in
+      let rest = cut during (Remove k ∷ after) first.2.0 h' first.2.2 in
       let removed = rest.2.1 in
       let start = some_of (StandsAt job position.zone position.instant) (first.2.0.jobs k) added.added in
       let start_there : first.2.0.jobs k ≡ Some start.0 = start.1 in
@@ -42,14 +42,14 @@ module _ {J : Type 0} (runs : J → Zone → ℤ → Type 0) where
       let on = grow runs before h first.0 first.1 in
       let further = grow runs during first.2.0 rest.0 rest.1 in
       let none_before = stays_fresh runs before h first.0 first.1 k (omega (arith, added.id_is)) (fresh k (omega (arith, added.id_is, on))) in
-      let none_behind = stays_gone runs rest.2.0 behind h' rest.2.2 k
+      let none_after = stays_gone runs rest.2.0 after h' rest.2.2 k
       (omega (arith, added.id_is, added.next_id, further, removed.next_id)) removed.gone in (
         start.0,
         life.0,
         start.2,
         life.2,
-        given_append k before (Add job position k ∷ during ++ Remove k ∷ behind)
-            ∙ ap (λ items. items ++ given k (during ++ Remove k ∷ behind)) none_before.0
-            ∙ given_append k during (Remove k ∷ behind) ∙ ap (λ items. given k during ++ items) none_behind.0 ∙ append-nil (given k during),
-        none_behind.1,
+        given_append k before (Add job position k ∷ during ++ Remove k ∷ after)
+            ∙ ap (λ items. items ++ given k (during ++ Remove k ∷ after)) none_before.0
+            ∙ given_append k during (Remove k ∷ after) ∙ ap (λ items. given k during ++ items) none_after.0 ∙ append-nil (given k during),
+        none_after.1,
       )

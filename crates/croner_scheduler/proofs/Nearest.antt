@@ -1,5 +1,5 @@
 -- The first turn is the nearest run that is left.
-use Rattle.std.proofs.Common.{◌≡◌, refl, sym, ap, ◌∙◌, subst, arith, ℕ, ◌≤◌, ℤ, ◌<ℤ◌, ◌≤ℤ◌, Bool, true, false, Option, Some, None, IfSome, option_map}
+use Rattle.std.proofs.Common.{◌≡◌, refl, sym, ap, ◌∙◌, subst, arith, ℕ, ◌≤◌, ℤ, ◌<ℤ◌, ◌≤ℤ◌, true, false, Option, Some, None, IfSome, option_map}
 use Rattle.std.proofs.Math.Logic.{∥∥₁_elim, ∥∥₁_map}
 use Rattle.std.proofs.Props.{props}
 use Rattle.std.proofs.lemmas.Bool.{false≢true}
@@ -21,7 +21,7 @@ use Rattle.croner_scheduler.specs.Standing.{Standing, Held, Seen}
 use Rattle.croner_scheduler.specs.Awaited.{WaitsAfter, AwaitsFirst, TakesAwaited, IsSomeDue}
 use Rattle.croner_scheduler.specs.Calls.{IsGivable, ComesAfter, IsFirst, IsNotDue, HasNoneSeen, IsNearest}
 use Rattle.croner_scheduler.specs.Private.Turns.{IsFirstTurn}
-use Rattle.croner_scheduler.specs.Kept.{standing_of, stop_of, FitsNext, Fits, run_of}
+use Rattle.croner_scheduler.specs.Kept.{standing_of, stop_of, FitsNext, Fits, second_of}
 use Rattle.croner_scheduler.specs.Private.Steps.{is_next_at, is_awaited_at}
 
 pub same_second : (a b : ℤ) → int_eq a b ≡ true → a ≡ b
@@ -42,54 +42,54 @@ is_itself a = by (int_cmp a a) (int_ranked a a _ refl)
 
 -- ---- one job, by what comes next of it
 
-module _ {T : Type 0} (runs : Zone → ℤ → Type 0) (moment : T → Moment) (m : Moment) (whole : m.fraction ≡ 0) (calm : IsCalm m.zone) where
+module _ (runs : Zone → ℤ → Type 0) (m : Moment) (whole : m.fraction ≡ 0) (calm : IsCalm m.zone) where
   -- a run that is left comes no earlier than the next one
-  next_before : (n : Next T) → FitsNext runs moment m n → stop_of n ≡ None → (j : ℤ) → m.instant <ℤ j → runs m.zone j → InSpan Forward m.zone.reads j
-      → (i : ℤ) × (is_next_at moment i n ≡ true) × (i ≤ℤ j)
-  next_before (Run t) fits goes j after run span =
-      ((moment t).instant, is_itself (moment t).instant, omega (arith, ints, (fits.0.nearest (record { calm = calm; whole = whole })).nearest j (after, run)))
+  next_before : (n : Next) → FitsNext runs m n → stop_of n ≡ None → (j : ℤ) → m.instant <ℤ j → runs m.zone j → InSpan Forward m.zone.reads j
+      → (i : ℤ) × (is_next_at i n ≡ true) × (i ≤ℤ j)
+  next_before (Run i) fits goes j after run span =
+      (i, is_itself i, omega (arith, ints, (fits.0.nearest (record { calm = calm; whole = whole })).nearest j (after, run)))
   next_before Over fits goes j after run span = absurd (fits (record { calm = calm; whole = whole }) j span (after, run))
   next_before (Stopped stop) fits goes j after run span = absurd (cc)
 
 module _ {J T : Type 0} (runs : J → Zone → ℤ → Type 0) (moment : T → Moment) where
   pub seen_before : (w : Waiting J T) → Fits runs moment w → stop_of w.next ≡ None → IsCalm (moment w.position).zone
-      → (j : ℤ) → Seen runs (standing_of moment w) j → (i : ℤ) × (is_next_at moment i w.next ≡ true) × (i ≤ℤ j)
+      → (j : ℤ) → Seen runs (standing_of moment w) j → (i : ℤ) × (is_next_at i w.next ≡ true) × (i ≤ℤ j)
   seen_before w fits goes calm j seen =
-      next_before (runs w.job) moment (moment w.position) fits.whole calm w.next fits.next goes j seen.0.0 seen.0.1 seen.1
+      next_before (runs w.job) (moment w.position) fits.whole calm w.next fits.next goes j seen.0.0 seen.0.1 seen.1
 
   module _ (o : Option (Waiting J T)) (fits : ∥ IfSome o (Fits runs moment) ∥₁) where
     -- after the first turn
-    pub behind : (k l : ℕ) (i : ℤ) → ((s : ℤ) → is_awaited_at moment s o ≡ true → (i ≤ℤ s) × (s ≡ i → k ≤ l))
+    pub comes_after : (k l : ℕ) (i : ℤ) → ((s : ℤ) → is_awaited_at s o ≡ true → (i ≤ℤ s) × (s ≡ i → k ≤ l))
         → IfSome (option_map (standing_of moment) o) (ComesAfter runs k i l)
-    behind k l i first = behind_by o fits first
+    comes_after k l i first = comes_after_by o fits first
       where
-        behind_by : (o : Option (Waiting J T)) → ∥ IfSome o (Fits runs moment) ∥₁
-            → ((s : ℤ) → is_awaited_at moment s o ≡ true → (i ≤ℤ s) × (s ≡ i → k ≤ l))
+        comes_after_by : (o : Option (Waiting J T)) → ∥ IfSome o (Fits runs moment) ∥₁
+            → ((s : ℤ) → is_awaited_at s o ≡ true → (i ≤ℤ s) × (s ≡ i → k ≤ l))
             → IfSome (option_map (standing_of moment) o) (ComesAfter runs k i l)
-        behind_by None fits first = tt
-        behind_by (Some w) fits first = λ goes calm j seen. ∥∥₁_elim fits (hlevel props) (λ f.
+        comes_after_by None fits first = tt
+        comes_after_by (Some w) fits first = λ goes calm j seen. ∥∥₁_elim fits (hlevel props) (λ f.
             let h = seen_before w f goes calm j seen in
             let g = first h.0 h.1 in
             (omega (arith, ints, g.0, h.2), λ same. g.1 (omega (arith, ints, g.0, h.2, same))))
 
     -- where none is awaited
-    pub none_seen : ((s : ℤ) → is_awaited_at moment s o ≡ false) → IfSome (option_map (standing_of moment) o) (HasNoneSeen runs)
+    pub none_seen : ((s : ℤ) → is_awaited_at s o ≡ false) → IfSome (option_map (standing_of moment) o) (HasNoneSeen runs)
     none_seen none = none_left_by o fits none
       where
-        none_left_by : (o : Option (Waiting J T)) → ∥ IfSome o (Fits runs moment) ∥₁ → ((s : ℤ) → is_awaited_at moment s o ≡ false)
+        none_left_by : (o : Option (Waiting J T)) → ∥ IfSome o (Fits runs moment) ∥₁ → ((s : ℤ) → is_awaited_at s o ≡ false)
             → IfSome (option_map (standing_of moment) o) (HasNoneSeen runs)
         none_left_by None fits none = tt
         none_left_by (Some w) fits none = λ goes calm j seen. ∥∥₁_elim fits (hlevel props) (λ f.
             let h = seen_before w f goes calm j seen in false≢true (sym (none h.0) ∙ h.1))
 
     -- a run that is awaited can be given
-    pub givable : (i : ℤ) → is_awaited_at moment i o ≡ true → IsSomeAnd (option_map (standing_of moment) o) (IsGivable runs i)
+    pub givable : (i : ℤ) → is_awaited_at i o ≡ true → IsSomeAnd (option_map (standing_of moment) o) (IsGivable runs i)
     givable i at = givable_by o fits at
       where
-        givable_next : (rs : Zone → ℤ → Type 0) (m : Moment) (n : Next T) → is_next_at moment i n ≡ true → FitsNext rs moment m n → m.fraction ≡ 0
+        givable_next : (rs : Zone → ℤ → Type 0) (m : Moment) (n : Next) → is_next_at i n ≡ true → FitsNext rs m n → m.fraction ≡ 0
             → (m.instant <ℤ i) × (IsCalm m.zone → rs m.zone i) × (IsCalm m.zone → (j : ℤ) → (m.instant <ℤ j) × rs m.zone j → i ≤ℤ j)
-        givable_next rs m (Run t) at fits whole =
-            let same = same_second (moment t).instant i at in (
+        givable_next rs m (Run j) at fits whole =
+            let same = same_second j i at in (
               subst (λ z. m.instant <ℤ z) same fits.1,
               λ calm. subst (λ z. rs m.zone z) same (fits.0.nearest (record { calm = calm; whole = whole })).counts.1,
               λ calm j left. subst (λ z. z ≤ℤ j) same ((fits.0.nearest (record { calm = calm; whole = whole })).nearest j left),
@@ -97,12 +97,12 @@ module _ {J T : Type 0} (runs : J → Zone → ℤ → Type 0) (moment : T → M
         givable_next rs m Over at fits whole = absurd (false≢true at)
         givable_next rs m (Stopped stop) at fits whole = absurd (false≢true at)
 
-        goes_next : (n : Next T) → is_next_at moment i n ≡ true → stop_of n ≡ None
-        goes_next (Run t) at = refl
+        goes_next : (n : Next) → is_next_at i n ≡ true → stop_of n ≡ None
+        goes_next (Run j) at = refl
         goes_next Over at = refl
         goes_next (Stopped stop) at = absurd (false≢true at)
 
-        givable_by : (o : Option (Waiting J T)) → ∥ IfSome o (Fits runs moment) ∥₁ → is_awaited_at moment i o ≡ true
+        givable_by : (o : Option (Waiting J T)) → ∥ IfSome o (Fits runs moment) ∥₁ → is_awaited_at i o ≡ true
             → IsSomeAnd (option_map (standing_of moment) o) (IsGivable runs i)
         givable_by None fits at = absurd (false≢true at)
         givable_by (Some w) fits at = record {
@@ -114,19 +114,24 @@ module _ {J T : Type 0} (runs : J → Zone → ℤ → Type 0) (moment : T → M
 
 -- ---- all jobs
 
-module _ {J T : Type 0} (runs : J → Zone → ℤ → Type 0) (moment : T → Moment) (h : Held J) (jobs : ℕ → Option (Waiting J T)) (has : ℤ → ℕ → Bool)
+module _ {J T : Type 0} (runs : J → Zone → ℤ → Type 0) (moment : T → Moment) (h : Held J) (jobs : ℕ → Option (Waiting J T))
     (is : (id : ℕ) → h.jobs id ≡ option_map (standing_of moment) (jobs id))
-    (listed : (second : ℤ) (id : ℕ) → has second id ≡ is_awaited_at moment second (jobs id))
     (fits : (id : ℕ) → ∥ IfSome (jobs id) (Fits runs moment) ∥₁) where
-  pub nearest : (first : Option Turn) → IsFirstTurn has first → IsNearest runs h first
+  pub nearest : (first : Option Turn) → IsFirstTurn (λ s k. is_awaited_at s (jobs k)) first → IsNearest runs h first
   nearest (Some due) first = record {
     givable = subst (λ o. IsSomeAnd o (IsGivable runs due.second)) (sym (is due.id))
-        (givable runs moment (jobs due.id) (fits due.id) due.second (sym (listed due.second due.id) ∙ first.0));
+        (givable runs moment (jobs due.id) (fits due.id) due.second first.0);
     first = λ l. subst (λ o. IfSome o (ComesAfter runs due.id due.second l)) (sym (is l))
-        (behind runs moment (jobs l) (fits l) due.id l due.second (λ s at. first.1 s l (listed s l ∙ at)));
+        (comes_after runs moment (jobs l) (fits l) due.id l due.second (λ s. first.1 s l));
   }
   nearest None first = λ l. subst (λ o. IfSome o (HasNoneSeen runs)) (sym (is l))
-      (none_seen runs moment (jobs l) (fits l) (λ s. sym (listed s l) ∙ first s l))
+      (none_seen runs moment (jobs l) (fits l) (λ s. first s l))
+
+-- the first turn is that of a run that is awaited
+pub first_is_awaited : {J T : Type 0} (jobs : ℕ → Option (Waiting J T)) (first : Option Turn) → IsFirstTurn (λ s k. is_awaited_at s (jobs k)) first
+    → IfSome first (λ turn. is_awaited_at turn.second (jobs turn.id) ≡ true)
+first_is_awaited jobs (Some turn) first = first.0
+first_is_awaited jobs None first = tt
 
 -- where the nearest run comes later than now, none is due
 module _ {J : Type 0} (runs : J → Zone → ℤ → Type 0) (h : Held J) (now : ℤ) where
@@ -134,47 +139,46 @@ module _ {J : Type 0} (runs : J → Zone → ℤ → Type 0) (h : Held J) (now :
   none_due due is later l = later_than (h.jobs l) (is.first l)
     where
       later_than : (o : Option (Standing J)) → IfSome o (ComesAfter runs due.id due.second l) → IfSome o (IsNotDue runs now)
-      later_than None behind = tt
-      later_than (Some s) behind = λ goes calm j seen. omega (arith, ints, later, (behind goes calm j seen).0)
+      later_than None after = tt
+      later_than (Some s) after = λ goes calm j seen. omega (arith, ints, later, (after goes calm j seen).0)
 
 -- ---- what is awaited, in every zone
 
 module _ {J T : Type 0} (moment : T → Moment) (h : Held J) (jobs : ℕ → Option (Waiting J T))
     (is : (id : ℕ) → h.jobs id ≡ option_map (standing_of moment) (jobs id)) where
-  pub awaits_first : (has : ℤ → ℕ → Bool) → ((second : ℤ) (id : ℕ) → has second id ≡ is_awaited_at moment second (jobs id))
-      → (first : Option Turn) → IsFirstTurn has first → AwaitsFirst h first
-  awaits_first has listed (Some due) first = (
-    subst (λ o. IsSomeAnd o (λ s. s.next ≡ Some due.second)) (sym (is due.id)) (own (jobs due.id) (sym (listed due.second due.id) ∙ first.0)),
-    λ l. subst (λ o. IfSome o (WaitsAfter due.id due.second l)) (sym (is l)) (after_all l (jobs l) (λ s at. first.1 s l (listed s l ∙ at))),
+  pub awaits_first : (first : Option Turn) → IsFirstTurn (λ s k. is_awaited_at s (jobs k)) first → AwaitsFirst h first
+  awaits_first (Some due) first = (
+    subst (λ o. IsSomeAnd o (λ s. s.next ≡ Some due.second)) (sym (is due.id)) (own (jobs due.id) first.0),
+    λ l. subst (λ o. IfSome o (WaitsAfter due.id due.second l)) (sym (is l)) (after_all l (jobs l) (λ s at. first.1 s l at)),
   )
     where
-      own_next : (n : Next T) → is_next_at moment due.second n ≡ true → option_map (λ t. (moment t).instant) (run_of n) ≡ Some due.second
-      own_next (Run t) at = ap Some (same_second (moment t).instant due.second at)
+      own_next : (n : Next) → is_next_at due.second n ≡ true → second_of n ≡ Some due.second
+      own_next (Run j) at = ap Some (same_second j due.second at)
       own_next Over at = absurd (false≢true at)
       own_next (Stopped stop) at = absurd (false≢true at)
 
-      own : (o : Option (Waiting J T)) → is_awaited_at moment due.second o ≡ true → IsSomeAnd (option_map (standing_of moment) o) (λ s. s.next ≡ Some due.second)
+      own : (o : Option (Waiting J T)) → is_awaited_at due.second o ≡ true → IsSomeAnd (option_map (standing_of moment) o) (λ s. s.next ≡ Some due.second)
       own None at = absurd (false≢true at)
       own (Some w) at = own_next w.next at
 
-      after_next : (l : ℕ) (n : Next T) → ((s : ℤ) → is_next_at moment s n ≡ true → (due.second ≤ℤ s) × (s ≡ due.second → due.id ≤ l))
-          → IfSome (option_map (λ t. (moment t).instant) (run_of n)) (λ j. (due.second ≤ℤ j) × (j ≡ due.second → due.id ≤ l))
-      after_next l (Run t) first = first (moment t).instant (is_itself (moment t).instant)
+      after_next : (l : ℕ) (n : Next) → ((s : ℤ) → is_next_at s n ≡ true → (due.second ≤ℤ s) × (s ≡ due.second → due.id ≤ l))
+          → IfSome (second_of n) (λ j. (due.second ≤ℤ j) × (j ≡ due.second → due.id ≤ l))
+      after_next l (Run j) first = first j (is_itself j)
       after_next l Over first = tt
       after_next l (Stopped stop) first = tt
 
-      after_all : (l : ℕ) (o : Option (Waiting J T)) → ((s : ℤ) → is_awaited_at moment s o ≡ true → (due.second ≤ℤ s) × (s ≡ due.second → due.id ≤ l))
+      after_all : (l : ℕ) (o : Option (Waiting J T)) → ((s : ℤ) → is_awaited_at s o ≡ true → (due.second ≤ℤ s) × (s ≡ due.second → due.id ≤ l))
           → IfSome (option_map (standing_of moment) o) (WaitsAfter due.id due.second l)
       after_all l None first = tt
       after_all l (Some w) first = after_next l w.next first
-  awaits_first has listed None none = λ l. subst (λ o. IfSome o (λ s. s.next ≡ None)) (sym (is l)) (none_in (jobs l) (λ s. sym (listed s l) ∙ none s l))
+  awaits_first None none = λ l. subst (λ o. IfSome o (λ s. s.next ≡ None)) (sym (is l)) (none_in (jobs l) (λ s. none s l))
     where
-      none_next : (n : Next T) → ((s : ℤ) → is_next_at moment s n ≡ false) → option_map (λ t. (moment t).instant) (run_of n) ≡ None
-      none_next (Run t) none = absurd (false≢true (sym (none (moment t).instant) ∙ is_itself (moment t).instant))
+      none_next : (n : Next) → ((s : ℤ) → is_next_at s n ≡ false) → second_of n ≡ None
+      none_next (Run j) none = absurd (false≢true (sym (none j) ∙ is_itself j))
       none_next Over none = refl
       none_next (Stopped stop) none = refl
 
-      none_in : (o : Option (Waiting J T)) → ((s : ℤ) → is_awaited_at moment s o ≡ false) → IfSome (option_map (standing_of moment) o) (λ s. s.next ≡ None)
+      none_in : (o : Option (Waiting J T)) → ((s : ℤ) → is_awaited_at s o ≡ false) → IfSome (option_map (standing_of moment) o) (λ s. s.next ≡ None)
       none_in None none = tt
       none_in (Some w) none = none_next w.next none
 

@@ -1,5 +1,5 @@
 -- What comes next of a job is what its search answers.
-use Rattle.std.proofs.Common.{rules, ◌≡◌, refl, inl, inr, ℤ, ◌<ℤ◌, int_lt, Bool, true, false, IfOk}
+use Rattle.std.proofs.Common.{rules, ◌≡◌, refl, subst, inl, inr, ℤ, ◌<ℤ◌, int_lt, Bool, true, false, IfOk}
 use Rattle.croner_base.specs.declared.errors.CronError.{CronError}
 use Rattle.croner_base.specs.declared.errors.CronError.TheVariants.{EmptyPattern, InvalidDate, InvalidTime, TimeSearchLimitExceeded, InvalidPattern, IllegalCharacters, ComponentError, OutOfMemory}
 use Rattle.croner_base.specs.declared.time.Direction.{Direction}
@@ -20,27 +20,27 @@ not_promised direction runs m lack e is limit memory h = apart (is.promised h)
     apart (inl same) = limit same
     apart (inr same) = memory same.0
 
-module _ {T : Type 0} (runs : Zone → ℤ → Type 0) (moment : T → Moment) (position : T) where
-  found_by : (found : T) (b : Bool) → int_lt (moment position).instant (moment found).instant ≡ b
-      → IsRunFound Forward runs (moment position) (moment found)
-      → FitsNext runs moment (moment position) (next_of_run moment position found)
-  found_by found true e is = rw e (is, search (rules, e))
-  found_by found false e is = rw e (λ h. absurd (apart e (is.nearest h).counts.0))
+module _ (runs : Zone → ℤ → Type 0) (position : Moment) where
+  found_by : (found : Moment) (b : Bool) → int_lt position.instant found.instant ≡ b → found.zone.holds found.instant ≡ true → IsRunFound Forward runs position found
+      → FitsNext runs position (next_of_run position.instant found.instant)
+  found_by found true e held is =
+      rw e (record { nearest = is.nearest; zone = refl; whole = refl }, search (rules, e), subst (λ z. z.holds found.instant ≡ true) is.zone held)
+  found_by found false e held is = rw e (λ h. absurd (apart e (is.nearest h).counts.0))
     where
-      apart : int_lt (moment position).instant (moment found).instant ≡ false → (moment position).instant <ℤ (moment found).instant → ⊥
+      apart : int_lt position.instant found.instant ≡ false → position.instant <ℤ found.instant → ⊥
       apart e lt = search (rules, e, lt)
 
-  pub fits_found : (found : T) → IsRunFound Forward runs (moment position) (moment found)
-      → FitsNext runs moment (moment position) (next_of_run moment position found)
-  fits_found found = found_by found (int_lt (moment position).instant (moment found).instant) refl
+  -- a run that was found is kept by its second, which its clock holds
+  pub fits_found : (found : Moment) → found.zone.holds found.instant ≡ true → IsRunFound Forward runs position found
+      → FitsNext runs position (next_of_run position.instant found.instant)
+  fits_found found = found_by found (int_lt position.instant found.instant) refl
 
-  pub fits_refused : (lack : Bool) (e : CronError) → IsRunRefused lack Forward runs (moment position) e
-      → IfOk (next_of_refusal {T = T} e) (FitsNext runs moment (moment position))
-  fits_refused lack EmptyPattern is = not_promised Forward runs (moment position) lack _ is (λ e. cc) (λ e. cc)
-  fits_refused lack InvalidDate is = not_promised Forward runs (moment position) lack _ is (λ e. cc) (λ e. cc)
-  fits_refused lack InvalidTime is = not_promised Forward runs (moment position) lack _ is (λ e. cc) (λ e. cc)
+  pub fits_refused : (lack : Bool) (e : CronError) → IsRunRefused lack Forward runs position e → IfOk (next_of_refusal e) (FitsNext runs position)
+  fits_refused lack EmptyPattern is = not_promised Forward runs position lack _ is (λ e. cc) (λ e. cc)
+  fits_refused lack InvalidDate is = not_promised Forward runs position lack _ is (λ e. cc) (λ e. cc)
+  fits_refused lack InvalidTime is = not_promised Forward runs position lack _ is (λ e. cc) (λ e. cc)
   fits_refused lack TimeSearchLimitExceeded is = λ calm. is.limit calm refl
-  fits_refused lack (InvalidPattern m) is = not_promised Forward runs (moment position) lack _ is (λ e. cc) (λ e. cc)
-  fits_refused lack (IllegalCharacters m) is = not_promised Forward runs (moment position) lack _ is (λ e. cc) (λ e. cc)
-  fits_refused lack (ComponentError m) is = not_promised Forward runs (moment position) lack _ is (λ e. cc) (λ e. cc)
+  fits_refused lack (InvalidPattern m) is = not_promised Forward runs position lack _ is (λ e. cc) (λ e. cc)
+  fits_refused lack (IllegalCharacters m) is = not_promised Forward runs position lack _ is (λ e. cc) (λ e. cc)
+  fits_refused lack (ComponentError m) is = not_promised Forward runs position lack _ is (λ e. cc) (λ e. cc)
   fits_refused lack OutOfMemory is = tt

@@ -1,5 +1,5 @@
 -- What a scheduler holds stays in order when a job is put at another position before its next run.
-use Rattle.std.proofs.Common.{rules, ◌≡◌, refl, sym, ap, ◌∙◌, subst, arith, ℕ, ℤ, ◌<ℤ◌, Bool, true, false, cond, Option, None, Some, IfSome, option_map}
+use Rattle.std.proofs.Common.{rules, ◌≡◌, refl, sym, ap, ◌∙◌, subst, arith, ℕ, ℤ, ◌<ℤ◌, true, false, cond, Option, None, Some, IfSome, option_map}
 use Rattle.std.proofs.Math.Logic.{∥∥₁_map}
 use Rattle.std.proofs.lemmas.Bool.{false≢true}
 use Rattle.std.proofs.lemmas.Int.{ints}
@@ -15,30 +15,31 @@ use Rattle.croner_scheduler.specs.declared.waiting.Waiting.{Waiting}
 use Rattle.croner_scheduler.specs.Calls.{StandsAt, MovesTo}
 use Rattle.croner_scheduler.specs.Kept.{standing_of, stop_of, StopsAt, FitsNext, Fits}
 use Rattle.croner_scheduler.specs.Standing.{Held}
-use Rattle.croner_scheduler.specs.Private.Steps.{jobs_with, job_standing_at, is_next_after, CanStand, is_awaited_at}
+use Rattle.croner_scheduler.specs.Private.Steps.{jobs_with, job_standing_at, is_next_after, CanStand}
 
-module _ {T : Type 0} (rs : Zone → ℤ → Type 0) (moment : T → Moment) where
+module _ (rs : Zone → ℤ → Type 0) where
   -- what comes next from a moment comes next from a later one before it
-  next_from : (m m' : Moment) → m'.zone ≡ m.zone → m.fraction ≡ 0 → m.instant <ℤ m'.instant → (n : Next T) → is_next_after moment m'.instant n ≡ true
-      → FitsNext rs moment m n → FitsNext rs moment m' n
-  next_from m m' zone whole on (Run t) later fits = (
+  next_from : (m m' : Moment) → m'.zone ≡ m.zone → m.fraction ≡ 0 → m.instant <ℤ m'.instant → (n : Next) → is_next_after m'.instant n ≡ true
+      → FitsNext rs m n → FitsNext rs m' n
+  next_from m m' zone whole on (Run i) later fits = (
     record {
       nearest = λ calm. let is = fits.0.nearest (record { calm = subst (λ z. IsCalm z) zone calm.calm; whole = whole }) in record {
-        counts = (search (rules, later), subst (λ z. rs z (moment t).instant) (sym zone) is.counts.1);
+        counts = (search (rules, later), subst (λ z. rs z i) (sym zone) is.counts.1);
         nearest = λ j counted. is.nearest j (omega (arith, ints, on, counted.0), subst (λ z. rs z j) zone counted.1);
       };
-      zone = fits.0.zone ∙ sym zone;
-      whole = fits.0.whole;
+      zone = refl;
+      whole = refl;
     },
     search (rules, later),
+    subst (λ z. z.holds i ≡ true) (sym zone) fits.2,
   )
   next_from m m' zone whole on Over later fits = absurd (false≢true later)
   next_from m m' zone whole on (Stopped stop) later fits = absurd (false≢true later)
 
-  goes_on : (m : Moment) (i : ℤ) (n : Next T) → is_next_after moment i n ≡ true → IfSome (stop_of n) (StopsAt m)
-  goes_on m i (Run t) later = tt
-  goes_on m i Over later = tt
-  goes_on m i (Stopped stop) later = absurd (false≢true later)
+goes_on : (m : Moment) (i : ℤ) (n : Next) → is_next_after i n ≡ true → IfSome (stop_of n) (StopsAt m)
+goes_on m i (Run j) later = tt
+goes_on m i Over later = tt
+goes_on m i (Stopped stop) later = absurd (false≢true later)
 
 module _ {J T : Type 0} (runs : J → Zone → ℤ → Type 0) (moment : T → Moment) (id : ℕ) (position : T) (jobs jobs' : ℕ → Option (Waiting J T))
     (fits : (k : ℕ) → ∥ IfSome (jobs k) (Fits runs moment) ∥₁) (whole : (moment position).fraction ≡ 0)
@@ -48,15 +49,6 @@ module _ {J T : Type 0} (runs : J → Zone → ℤ → Type 0) (moment : T → M
 
   passed_own : jobs' id ≡ option_map (job_standing_at position) (jobs id)
   passed_own = stands id ∙ ap (λ b. cond b (option_map (job_standing_at position) (jobs id)) (jobs id)) (own_id id)
-
-  pub passed_listed : (has : ℤ → ℕ → Bool) → ((s : ℤ) (k : ℕ) → has s k ≡ is_awaited_at moment s (jobs k)) → (s : ℤ) (k : ℕ) → has s k ≡ is_awaited_at moment s (jobs' k)
-  passed_listed has listed s = each id (λ k. has s k ≡ is_awaited_at moment s (jobs' k))
-      (listed s id ∙ still (jobs id) ∙ sym (ap (is_awaited_at moment s) passed_own))
-      (λ k e. listed s k ∙ sym (ap (is_awaited_at moment s) (passed_apart k e)))
-    where
-      still : (o : Option (Waiting J T)) → is_awaited_at moment s o ≡ is_awaited_at moment s (option_map (job_standing_at position) o)
-      still None = refl
-      still (Some w) = refl
 
   pub passed_fits : (k : ℕ) → ∥ IfSome (jobs' k) (Fits runs moment) ∥₁
   passed_fits = each id (λ k. ∥ IfSome (jobs' k) (Fits runs moment) ∥₁)
@@ -68,7 +60,7 @@ module _ {J T : Type 0} (runs : J → Zone → ℤ → Type 0) (moment : T → M
       own None can fits = tt
       own (Some w) can fits = record {
         whole = whole;
-        next = next_from (runs w.job) moment (moment w.position) (moment position) can.zone fits.whole can.on w.next can.later fits.next;
+        next = next_from (runs w.job) (moment w.position) (moment position) can.zone fits.whole can.on w.next can.later fits.next;
       }
 
   module _ (h h' : Held J) (is : (k : ℕ) → h.jobs k ≡ option_map (standing_of moment) (jobs k))
@@ -95,7 +87,7 @@ module _ {J T : Type 0} (runs : J → Zone → ℤ → Type 0) (moment : T → M
           zone_is = can.zone;
           instant = refl;
           whole = whole;
-          stop = goes_on (runs w.job) moment (moment position) (moment position).instant w.next can.later;
+          stop = goes_on (moment position) (moment position).instant w.next can.later;
         }
 
     pub passed_kept : IfSome (h.jobs id) (λ s. IsSomeAnd (h'.jobs id) (λ s'. (s'.next ≡ s.next) × (s'.stop ≡ None)))
@@ -104,8 +96,8 @@ module _ {J T : Type 0} (runs : J → Zone → ℤ → Type 0) (moment : T → M
         (subst (λ o. IfSome (option_map (standing_of moment) (jobs id)) (λ s. IsSomeAnd o (λ s'. (s'.next ≡ s.next) × (s'.stop ≡ None))))
         (sym (is' id ∙ ap (option_map (standing_of moment)) passed_own)) (own (jobs id) can))
       where
-        goes : (i : ℤ) (n : Next T) → is_next_after moment i n ≡ true → stop_of n ≡ None
-        goes i (Run t) later = refl
+        goes : (i : ℤ) (n : Next) → is_next_after i n ≡ true → stop_of n ≡ None
+        goes i (Run j) later = refl
         goes i Over later = refl
         goes i (Stopped stop) later = absurd (false≢true later)
 

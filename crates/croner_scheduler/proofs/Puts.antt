@@ -1,83 +1,22 @@
 -- What a scheduler holds stays in order when a job is put in the place of one: another job, or the same at another position or with another
 -- run next.
-use Rattle.std.proofs.Common.{◌≡◌, refl, sym, ap, ◌∙◌, subst, ℕ, ℤ, ◌<ℤ◌, Bool, true, false, cond, Option, Some, IfSome, is_some, option_map}
+use Rattle.std.proofs.Common.{◌≡◌, refl, sym, ap, ◌∙◌, subst, ℕ, ℤ, Bool, true, false, cond, Option, None, Some, IfSome, IsSome, is_some, option_map}
 use Rattle.std.proofs.Math.Logic.{∥∥₁_elim}
 use Rattle.std.proofs.Props.{props}
-use Rattle.std.proofs.lemmas.Bool.{false≢true}
-use Rattle.std.proofs.lemmas.Cmp.{int_ranked}
 use Rattle.std.proofs.lemmas.Grind.{merely}
 use Rattle.std.specs.BTreeMap.{is_at}
 use Rattle.std.specs.Option.{IsSomeAnd}
-use Rattle.std.specs.Ordering.{MatchOrdering, nat_cmp, int_cmp, int_eq, is_eq, ordering_then}
-use Rattle.std.specs.declared.cmp.Ordering.{Ordering}
-use Rattle.std.specs.declared.cmp.Ordering.TheVariants.{Less, Equal, Greater}
+use Rattle.std.specs.Ordering.{nat_cmp}
 use Rattle.croner_base.specs.Zone.{Zone, Moment}
-use Rattle.croner_scheduler.proofs.Changes.{turn_here, turn_apart, stops_where}
+use Rattle.croner_scheduler.proofs.Changes.{stops_where}
 use Rattle.croner_scheduler.proofs.Ids.{own_id, other_id, each}
-use Rattle.croner_scheduler.proofs.Nearest.{same_second, is_itself}
-use Rattle.croner_scheduler.specs.declared.waiting.Next.{Next}
-use Rattle.croner_scheduler.specs.declared.waiting.Next.TheVariants.{Run, Over, Stopped}
 use Rattle.croner_scheduler.specs.declared.waiting.Waiting.{Waiting}
-use Rattle.croner_scheduler.specs.Calls.{StandsAt, TellsStop, is_asked, AgainTellsStop, IsSameBut, MovesTo, IsPut}
+use Rattle.croner_scheduler.specs.Calls.{StandsAt, TellsStop, is_asked, AgainTellsStop, IsSameBut, MovesTo, IsGivenBack, IsPut}
 use Rattle.croner_scheduler.specs.Kept.{standing_of, stop_of, Fits}
 use Rattle.croner_scheduler.specs.Standing.{Standing, Held}
-use Rattle.croner_scheduler.specs.Private.Steps.{jobs_with, is_next_at, is_awaited_at, again_of}
-use Rattle.croner_scheduler.specs.Private.Turns.{is_turn, is_next_turn, is_same_turn}
+use Rattle.croner_scheduler.specs.Private.Steps.{jobs_with, again_of, ArePartsOf}
 
-turn_second : (a : ℤ) (x : ℕ) (b : ℤ) (y : ℕ) → is_turn a x b y ≡ true → a ≡ b
-turn_second a x b y e = by (int_cmp a b) (nat_cmp x y) (int_ranked a b _ refl) e
-  where
-    by : (r s : Ordering) → MatchOrdering r (a <ℤ b) (a ≡ b) (b <ℤ a) → is_eq (ordering_then r s) ≡ true → a ≡ b
-    by Less s lt e = absurd (false≢true e)
-    by Equal s same e = same
-    by Greater s lt e = absurd (false≢true e)
-
-module _ {T : Type 0} (moment : T → Moment) (id : ℕ) (s : ℤ) (k : ℕ) where
-  next_second : (a b : T) → is_next_turn moment (Run a) id s k ≡ true → is_next_turn moment (Run b) id s k ≡ true → is_same_turn moment (Run a) (Run b) ≡ true
-  next_second a b e f =
-      let x = turn_second (moment a).instant id s k e in
-      let y = turn_second (moment b).instant id s k f in
-      subst (λ z. int_eq (moment a).instant z ≡ true) (x ∙ sym y) (is_itself (moment a).instant)
-
-  apart_by : (n m : Next T) → is_same_turn moment n m ≡ false → is_next_turn moment n id s k ≡ true → is_next_turn moment m id s k ≡ true → ⊥
-  apart_by (Run a) (Run b) apart e f = false≢true (sym apart ∙ next_second a b e f)
-  apart_by (Run a) Over apart e f = false≢true f
-  apart_by (Run a) (Stopped stop) apart e f = false≢true f
-  apart_by Over m apart e f = false≢true e
-  apart_by (Stopped stop) m apart e f = false≢true e
-
-  -- the turn of the one is taken out after that of the other, where the two differ
-  pub taken_after : (n m : Next T) (has : Bool) → is_same_turn moment n m ≡ false
-      → cond (is_next_turn moment n id s k) false (cond (is_next_turn moment m id s k) true has)
-      ≡ cond (is_next_turn moment m id s k) true (cond (is_next_turn moment n id s k) false has)
-  taken_after n m has apart = by (is_next_turn moment n id s k) (is_next_turn moment m id s k) (λ e f. apart_by n m apart e f)
-    where
-      by : (b d : Bool) → (b ≡ true → d ≡ true → ⊥) → cond b false (cond d true has) ≡ cond d true (cond b false has)
-      by true true never = absurd (never refl refl)
-      by true false never = refl
-      by false true never = refl
-      by false false never = refl
-
-  -- and stays where the two are one
-  pub kept_turn : (n m : Next T) (has : Bool) → is_same_turn moment n m ≡ true
-      → cond (is_next_turn moment m id s k) true has ≡ cond (is_next_turn moment m id s k) true (cond (is_next_turn moment n id s k) false has)
-  kept_turn (Run a) (Run b) has same =
-      let e : is_next_turn moment (Run a) id s k ≡ is_next_turn moment (Run b) id s k =
-      ap (λ z. is_turn z id s k) (same_second (moment a).instant (moment b).instant same) in
-      by (is_next_turn moment (Run a) id s k) (is_next_turn moment (Run b) id s k) e
-    where
-      by : (b d : Bool) → b ≡ d → cond d true has ≡ cond d true (cond b false has)
-      by true true e = refl
-      by false false e = refl
-      by true false e = absurd (false≢true (sym e))
-      by false true e = absurd (false≢true e)
-  kept_turn (Run a) Over has same = absurd (false≢true same)
-  kept_turn (Run a) (Stopped stop) has same = absurd (false≢true same)
-  kept_turn Over m has same = absurd (false≢true same)
-  kept_turn (Stopped stop) m has same = absurd (false≢true same)
-
-module _ {J T : Type 0} (runs : J → Zone → ℤ → Type 0) (moment : T → Moment) (id : ℕ) (jobs jobs' : ℕ → Option (Waiting J T)) (has : ℤ → ℕ → Bool)
-    (listed : (second : ℤ) (k : ℕ) → has second k ≡ is_awaited_at moment second (jobs k))
+module _ {J T : Type 0} (runs : J → Zone → ℤ → Type 0) (moment : T → Moment) (id : ℕ) (jobs jobs' : ℕ → Option (Waiting J T))
     (fits : (k : ℕ) → ∥ IfSome (jobs k) (Fits runs moment) ∥₁)
     (w : Waiting J T) (there : jobs id ≡ Some w) (other : Waiting J T) (fit : Fits runs moment other)
     (puts : (k : ℕ) → jobs' k ≡ jobs_with id (λ _. other) k (jobs k)) where
@@ -86,22 +25,6 @@ module _ {J T : Type 0} (runs : J → Zone → ℤ → Type 0) (moment : T → M
 
   put_own : jobs' id ≡ Some other
   put_own = puts id ∙ ap (λ b. cond b (option_map (λ _. other) (jobs id)) (jobs id)) (own_id id) ∙ ap (option_map (λ _. other)) there
-
-  pub put_listed : (has1 : ℤ → ℕ → Bool)
-      → ((s : ℤ) (k : ℕ) → has1 s k ≡ cond (is_next_turn moment other.next id s k) true (cond (is_next_turn moment w.next id s k) false (has s k)))
-      → (s : ℤ) (k : ℕ) → has1 s k ≡ is_awaited_at moment s (jobs' k)
-  put_listed has1 changed s = each id (λ k. has1 s k ≡ is_awaited_at moment s (jobs' k))
-      (changed s id ∙ ap (λ b. cond b true (cond (is_next_turn moment w.next id s id) false (has s id))) (turn_here moment other.next id s)
-      ∙ ap (cond (is_next_at moment s other.next) true) (ap (λ b. cond b false (has s id)) (turn_here moment w.next id s)
-      ∙ ap (cond (is_next_at moment s w.next) false) (listed s id ∙ ap (is_awaited_at moment s) there))
-      ∙ own (is_next_at moment s other.next) (is_next_at moment s w.next) ∙ sym (ap (is_awaited_at moment s) put_own))
-      (λ k e. changed s k ∙ ap (λ b. cond b true (cond (is_next_turn moment w.next id s k) false (has s k))) (turn_apart moment other.next id s k e)
-      ∙ ap (λ b. cond b false (has s k)) (turn_apart moment w.next id s k e) ∙ listed s k ∙ sym (ap (is_awaited_at moment s) (put_apart k e)))
-    where
-      own : (b d : Bool) → cond b true (cond d false d) ≡ b
-      own true d = refl
-      own false true = refl
-      own false false = refl
 
   pub put_fits : (k : ℕ) → ∥ IfSome (jobs' k) (Fits runs moment) ∥₁
   put_fits = each id (λ k. ∥ IfSome (jobs' k) (Fits runs moment) ∥₁)
@@ -125,7 +48,7 @@ module _ {J T : Type 0} (runs : J → Zone → ℤ → Type 0) (moment : T → M
             zone_is = refl;
             instant = refl;
             whole = fit.whole;
-            stop = stops_where (runs other.job) moment (moment other.position) other.next fit.next;
+            stop = stops_where (runs other.job) (moment other.position) other.next fit.next;
           });
       rest = put_rest;
     }
@@ -145,7 +68,7 @@ module _ {J T : Type 0} (runs : J → Zone → ℤ → Type 0) (moment : T → M
             zone_is = zone;
             instant = refl;
             whole = fit.whole;
-            stop = stops_where (runs other.job) moment (moment other.position) other.next fit.next;
+            stop = stops_where (runs other.job) (moment other.position) other.next fit.next;
           }));
       rest = put_rest;
     }
@@ -157,6 +80,17 @@ module _ {J T : Type 0} (id : ℕ) (jobs jobs' : ℕ → Option (Waiting J T)) (
   changed_puts = each id (λ k. jobs' k ≡ jobs_with id (λ _. change w) k (jobs k))
       (changes id ∙ subst (λ o. cond (is_at (nat_cmp id) id) (option_map change o) o ≡ cond (is_at (nat_cmp id) id) (option_map (λ _. change w) o) o) (sym there) refl)
       (λ k e. changes k ∙ ap (λ b. cond b (option_map change (jobs k)) (jobs k)) e ∙ sym (ap (λ b. cond b (option_map (λ _. change w) (jobs k)) (jobs k)) e))
+
+-- there is a job where there is a standing
+pub there_is : {J T : Type 0} (moment : T → Moment) (o : Option (Waiting J T)) → IsSome (option_map (standing_of moment) o) → (w : Waiting J T) × (o ≡ Some w)
+there_is moment None some = absurd (cc)
+there_is moment (Some w) some = (w, refl)
+
+-- what stood there is given back
+pub given_back : {J T : Type 0} (moment : T → Moment) (o : Option (Waiting J T)) (parts : J × T) → ArePartsOf o parts
+    → IsGivenBack moment (option_map (standing_of moment) o) (Some parts)
+given_back moment None parts are = absurd are
+given_back moment (Some w) parts are = (are.0, ap moment are.1)
 
 -- a job fits where it stands
 pub fits_there : {J T : Type 0} (runs : J → Zone → ℤ → Type 0) (moment : T → Moment) (o : Option (Waiting J T)) (w : Waiting J T)

@@ -95,7 +95,7 @@ pub record IsGivenBetween {J : Type 0} (runs : J → Zone → ℤ → Type 0) (s
   pub ordered : AllPairs (λ i j. i <ℤ j) items
   pub between : All (λ i. (s.position.instant <ℤ i) × (i ≤ℤ s'.position.instant)) items
   -- what was passed over lies there too, and is none of them
-  pub behind : (i : ℤ) → passed i → (s.position.instant <ℤ i) × (i ≤ℤ s'.position.instant)
+  pub passed_between : (i : ℤ) → passed i → (s.position.instant <ℤ i) × (i ≤ℤ s'.position.instant)
   pub apart : All (λ i. ¬ (passed i)) items
   -- in a calm zone each is a run of it, and each run that was left is among them, was passed over, or is left still
   pub are_runs : IsCalm s.position.zone → All (λ i. ∥ runs s.job s.position.zone i ∥₁) items

@@ -21,7 +21,7 @@ GivesAcross {J} runs h = (before after : List (Call J)) (k : ℕ) (job : J) (pos
 -- whatever calls are made before the add of a job, between it and its removal, and after that: those between give its runs from its
 -- position on, and nothing else is given of its id
 abbrev pub GivesOfOneLife : {J : Type 0} → (J → Zone → ℤ → Type 0) → Held J → Type 0
-GivesOfOneLife {J} runs h = (before during behind : List (Call J)) (k : ℕ) (job : J) (position : Moment) (h' : Held J)
-    → MakesInTurn runs (before ++ (Add job position k ∷ during ++ Remove k ∷ behind)) h h' → All (Stays k) during
+GivesOfOneLife {J} runs h = (before during after : List (Call J)) (k : ℕ) (job : J) (position : Moment) (h' : Held J)
+    → MakesInTurn runs (before ++ (Add job position k ∷ during ++ Remove k ∷ after)) h h' → All (Stays k) during
     → (s : Standing J) × (s' : Standing J) × StandsAt job position.zone position.instant s × Gives runs k during s s'
-    × (given k (before ++ (Add job position k ∷ during ++ Remove k ∷ behind)) ≡ given k during) × (h'.jobs k ≡ None)
+    × (given k (before ++ (Add job position k ∷ during ++ Remove k ∷ after)) ≡ given k during) × (h'.jobs k ≡ None)

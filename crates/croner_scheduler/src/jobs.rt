@@ -8,20 +8,15 @@ ghost use Rattle.std.specs.Option.{option_copied};
 ghost use Rattle.std.specs.Ordering.{nat_cmp};
 ghost use Rattle.croner_scheduler.specs.Ids.{job_of};
 ghost use Rattle.croner_scheduler.specs.Private.Places.{entries_in, AreInRow, PutsInFront};
-ghost use Rattle.croner_scheduler.specs.Private.Steps.{jobs_with, job_after_run, job_at_position, job_standing_at, job_with_next, FitsAfter, ArePartsOf};
+ghost use Rattle.croner_scheduler.specs.Private.Steps.{jobs_with, job_at_position, job_standing_at, job_with_next, is_awaited_at, ArePartsOf};
 
 use crate::iter::Iter;
+use crate::room::{GONE_PART, LEAST_ROOM, ROOM_PART};
+use crate::turns::Turn;
 use crate::waiting::{Next, Waiting};
-use croner::{Clocked, Recurring};
 use std::alloc::{AllocError, Global};
 use std::marker::Model;
 use std::mem;
-
-// Where there is no room for another place, an eighth of the places is freed, if so many are empty, or taken besides.
-const PART_OF_PLACES: usize = 8;
-
-// And this many besides, so that some room is taken where there are few.
-const LEAST_ROOM: usize = 4;
 
 // Jobs under ids that rise. Each id that was given has a place, in the order of the ids, and that of a job that was removed is empty.
 // Empty places are taken out where another job needs room and an eighth of the places is empty: so there are few of them, and a job costs
@@ -85,6 +80,16 @@ impl<J, T> Jobs<J, T> {
         }
     }
 
+    // Whether the next run of a job is that of a turn.
+    pub(crate) fn is_awaiting(&self, turn: Turn) -> bool
+        ensures { result ≡ is_awaited_at turn.second (job_of self.now turn.id) }
+    {
+        match self.get(turn.id) {
+            Some(waiting) => waiting.runs_at(turn.second),
+            None => false,
+        }
+    }
+
     // The jobs with their ids.
     pub(crate) fn iter(&self) -> Iter<'_, J, T>
         ensures entries { result ≡ self.now.entries }
@@ -103,6 +108,7 @@ impl<J, T> Jobs<J, T> {
         T: Drop,
         requires { self.old.next_id < 2 ^ 64 - 1 }
         ensures id { IfOk result (λ id. id ≡ self.old.next_id) }
+        ensures unused { OnOk result (job_of self.old self.old.next_id ≡ None) }
         ensures jobs { OnOk result ((other : ℕ) → job_of self.new other ≡ cond (is_at (nat_cmp self.old.next_id) other) (Some waiting) (job_of self.old other)) }
         ensures count { OnOk result (length self.new.entries ≡ length self.old.entries + 1) }
         ensures next_id { OnOk result (self.new.next_id ≡ self.old.next_id + 1) }
@@ -120,6 +126,14 @@ impl<J, T> Jobs<J, T> {
         Ok(id)
     }
 
+    // Takes room for so many more jobs.
+    pub(crate) fn reserve(&mut self, additional: usize) -> Result<(), AllocError>
+        ensures { self.new ≡ self.old }
+    {
+        self.ids.reserve_exact(additional)?;
+        self.places.reserve_exact(additional)
+    }
+
     // Removes a job.
     pub(crate) fn remove(&mut self, id: u64) -> Option<Waiting<J, T>>
         ensures removed { result ≡ job_of self.old id }
@@ -133,21 +147,8 @@ impl<J, T> Jobs<J, T> {
         waiting
     }
 
-    // One job steps to its next run.
-    pub(crate) fn step(&mut self, id: u64, next: Next<T>)
-    where
-        T: Drop,
-        ensures jobs { (other : ℕ) → job_of self.new other ≡ jobs_with id (job_after_run next) other (job_of self.old other) }
-        ensures count { length self.new.entries ≡ length self.old.entries }
-        ensures next_id { self.new.next_id ≡ self.old.next_id }
-    {
-        if let Some(place) = place_of(&self.ids, id) {
-            step(&mut self.places[place], next);
-        }
-    }
-
     // One job moves to another position.
-    pub(crate) fn move_to(&mut self, id: u64, position: T, next: Next<T>)
+    pub(crate) fn move_to(&mut self, id: u64, position: T, next: Next)
     where
         T: Drop,
         ensures jobs { (other : ℕ) → job_of self.new other ≡ jobs_with id (job_at_position position next) other (job_of self.old other) }
@@ -173,9 +174,7 @@ impl<J, T> Jobs<J, T> {
     }
 
     // One job has another run next.
-    pub(crate) fn renew(&mut self, id: u64, next: Next<T>)
-    where
-        T: Drop,
+    pub(crate) fn renew(&mut self, id: u64, next: Next)
         ensures jobs { (other : ℕ) → job_of self.new other ≡ jobs_with id (job_with_next next) other (job_of self.old other) }
         ensures count { length self.new.entries ≡ length self.old.entries }
         ensures next_id { self.new.next_id ≡ self.old.next_id }
@@ -206,27 +205,7 @@ impl<J, T> Jobs<J, T> {
     }
 }
 
-impl<J: Recurring<T>, T: Clocked> Jobs<J, T> {
-    // What comes next after the next run of a job.
-    pub(crate) fn next_but_one(&self, id: u64) -> Result<Next<T>, AllocError>
-        ensures { IfOk result (λ next. IfSome (job_of self.now id) (λ w. FitsAfter (J.runs w.job) T.moment w.next next)) }
-    {
-        match self.get(id) {
-            Some(waiting) => waiting.next_but_one(),
-            None => Ok(Next::Over),
-        }
-    }
-}
-
-fn step<J, T: Drop>(place: &mut Option<Waiting<J, T>>, next: Next<T>)
-    ensures { place.new ≡ option_map (job_after_run next) place.old }
-{
-    if let Some(waiting) = place {
-        waiting.step(next);
-    }
-}
-
-fn move_to<J, T: Drop>(place: &mut Option<Waiting<J, T>>, position: T, next: Next<T>)
+fn move_to<J, T: Drop>(place: &mut Option<Waiting<J, T>>, position: T, next: Next)
     ensures { place.new ≡ option_map (job_at_position position next) place.old }
 {
     if let Some(waiting) = place {
@@ -242,7 +221,7 @@ fn move_before_next<J, T: Drop>(place: &mut Option<Waiting<J, T>>, position: T)
     }
 }
 
-fn renew<J, T: Drop>(place: &mut Option<Waiting<J, T>>, next: Next<T>)
+fn renew<J, T>(place: &mut Option<Waiting<J, T>>, next: Next)
     ensures { place.new ≡ option_map (job_with_next next) place.old }
 {
     if let Some(waiting) = place {
@@ -306,7 +285,7 @@ fn thin_out<J: Drop, T: Drop>(
     requires { length ids.old.items ≡ length places.old.items }
     ensures { AreInRow ids.old.items places.old.items ids.new.items places.new.items }
 {
-    if places.len() < places.capacity() || places.len() - places.len() / PART_OF_PLACES < count {
+    if places.len() < places.capacity() || places.len() - places.len() / GONE_PART < count {
         return;
     }
     take_out_empty(ids, places);
@@ -320,7 +299,7 @@ fn take_room<X>(items: &mut Vec<X>) -> Result<(), AllocError>
     if items.len() < items.capacity() {
         return Ok(());
     }
-    items.reserve_exact(items.len() / PART_OF_PLACES + LEAST_ROOM)
+    items.reserve_exact(items.len() / ROOM_PART + LEAST_ROOM)
 }
 
 // Takes out the empty places.

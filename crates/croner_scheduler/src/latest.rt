@@ -38,14 +38,14 @@ pub(crate) enum Last<T> {
     Refused(Refusal),
 }
 
-// The last run of a job up to a moment, where its next run lies no later.
+// The last run of a job up to a moment, where its next run, at that second, lies no later.
 #[tactic(auto, using(crate::proofs::LastRuns::last_refused))]
 pub(crate) fn last_of<J: Recurring<T>, T: Clocked>(
     job: &J,
-    next: &T,
+    next: i64,
     until: &T,
 ) -> Result<Last<T>, AllocError>
-    ensures { IfOk result (FitsLast (J.runs job.now) T.moment next.now (T.moment until.now)) }
+    ensures { IfOk result (FitsLast (J.runs job.now) T.moment next (T.moment until.now)) }
 {
     match job.last_until(until) {
         Ok(found) => Ok(last_of_run(next, until, found)),
@@ -54,10 +54,10 @@ pub(crate) fn last_of<J: Recurring<T>, T: Clocked>(
 }
 
 // How a run that was found compares with the next run.
-fn last_of_run<T: Clocked>(next: &T, until: &T, found: T) -> Last<T>
-    ensures { result ≡ last_of_run T.moment next.now until.now found }
+fn last_of_run<T: Clocked>(next: i64, until: &T, found: T) -> Last<T>
+    ensures { result ≡ last_of_run T.moment next until.now found }
 {
-    if next.second() < found.second() && found.second() <= until.second() {
+    if next < found.second() && found.second() <= until.second() {
         Last::Later(found)
     } else {
         Last::Known

@@ -7,6 +7,7 @@ mod iter;
 mod jobs;
 mod latest;
 pub mod laws;
+mod room;
 mod scheduler;
 mod skip;
 mod stops;

@@ -1,24 +1,24 @@
 //! The scheduler.
-ghost use Rattle.std.specs.Prelude.{◌≡◌, ◌≤◌, ℕ, ℤ, is_some, IfSome};
+ghost use Rattle.std.proofs.Props.{props};
+ghost use Rattle.std.specs.Prelude.{◌≡◌, ◌≤◌, ℕ, is_some, IfSome};
+ghost use Rattle.std.specs.BinaryHeap.{heap_items};
 ghost use Rattle.std.specs.Ordering.{nat_cmp};
 ghost use Rattle.croner_scheduler.specs.Ids.{job_of};
-ghost use Rattle.croner_scheduler.specs.Private.Turns.{has_turn};
+ghost use Rattle.croner_scheduler.specs.Private.Turns.{AreTurnsOf};
 ghost use Rattle.croner_scheduler.specs.Kept.{Fits};
 ghost use Rattle.croner_scheduler.specs.Private.Latest.{CanGive, IsLastGiven};
-ghost use Rattle.croner_scheduler.specs.Private.Steps.{is_awaited_at, CanStand};
+ghost use Rattle.croner_scheduler.specs.Private.Steps.{is_awaited_at, CanStand, IsRunOf};
 
 use crate::add::{not_added, not_added_for_memory};
 use crate::iter::Iter;
 use crate::jobs::Jobs;
 use crate::latest::{Last, last_of};
-use crate::turns::{
-    Due, Turn, await_next, change_turn, due_of, first_turn, take_out_next, take_out_turn,
-};
+use crate::turns::{Due, Turn, Turns, await_next, due_of, first_turn, make_room, reserve, settle};
 use crate::waiting::{Waiting, next_of, second_before};
 use crate::{AddError, Added, Again, Latest, NotAdded, Replaced, Skip, Stops};
 use croner::{Clocked, Recurring};
 use std::alloc::{AllocError, Global};
-use std::collections::BTreeSet;
+use std::collections::BinaryHeap;
 
 /// Jobs under ids, each with a position: the moment up to which its runs are done.
 ///
@@ -48,8 +48,8 @@ use std::collections::BTreeSet;
 /// ```
 pub struct Scheduler<J: Recurring<T>, T: Clocked> {
     jobs: Jobs<J, T>,
-    turns: BTreeSet<(i64, u64)>,
-    ghost listed: { (second : ℤ) (id : ℕ) → has_turn turns second id ≡ is_awaited_at T.moment second (job_of jobs id) },
+    turns: Turns,
+    ghost turns_of: { AreTurnsOf (job_of jobs) (heap_items turns) } by { Prim.hlevel props },
     ghost fits: { (id : ℕ) → ∥ IfSome (job_of jobs id) (Fits J.runs T.moment) ∥₁ },
 }
 
@@ -90,8 +90,18 @@ impl<J: Recurring<T>, T: Clocked> Scheduler<J, T> {
     {
         Scheduler {
             jobs: Jobs::new(alloc, first_id),
-            turns: BTreeSet::new(alloc),
+            turns: BinaryHeap::new(alloc),
         }
+    }
+
+    /// Takes room for so many more jobs, for a program that knows how many it will add: their places then take no memory that isn't needed,
+    /// and none when they are added. Without it room for a sixteenth more is taken at a time. Nothing else changes; after lack of memory
+    /// there may be room for fewer.
+    pub fn reserve(&mut self, additional: usize) -> Result<(), AllocError>
+        ensures same { IsSame (held_of T.moment self.old) (held_of T.moment self.new) }
+    {
+        self.jobs.reserve(additional)?;
+        reserve(&mut self.turns, additional)
     }
 
     /// How many jobs there are, including those that are stopped or have no run left.
@@ -125,7 +135,7 @@ impl<J: Recurring<T>, T: Clocked> Scheduler<J, T> {
         self.jobs.get(id)
     }
 
-    /// The second of the earliest next run ([`Waiting::next_run`]) of all jobs: when to call [`take_due`](Scheduler::take_due) next. `None`
+    /// The second of the earliest next run ([`Waiting::next_second`]) of all jobs: when to call [`take_due`](Scheduler::take_due) next. `None`
     /// exactly where no job has a next run. It makes no search.
     pub fn next_wake_up(&self) -> Option<i64>
         ensures wake_up { IsWakeUp J.runs (held_of T.moment self.now) result }
@@ -137,7 +147,7 @@ impl<J: Recurring<T>, T: Clocked> Scheduler<J, T> {
         }
     }
 
-    /// The earliest next run ([`Waiting::next_run`]) of all jobs, if it is no later than `now`; it becomes its job's position. `None` where
+    /// The earliest next run ([`Waiting::next_second`]) of all jobs, if it is no later than `now`; it becomes its job's position. `None` where
     /// nothing is due. Of several runs at one instant that of the lowest id comes first.
     ///
     /// The call first searches for the run after it. Where memory is lacking for that search or for its result, the call fails and nothing
@@ -249,14 +259,13 @@ impl<J: Recurring<T>, T: Clocked> Scheduler<J, T> {
         let Some(waiting) = self.jobs.get(id) else {
             return Ok(Latest::NoJob);
         };
-        let Some(next) = waiting.due_run(now) else {
+        let Some(known) = waiting.due_second(now) else {
             return Ok(Latest::NothingDue);
         };
         let Some(until) = waiting.position.at_second(now) else {
             return Ok(Latest::NotHeld);
         };
-        let known = next.second();
-        let last = last_of(&waiting.job, next, &until)?;
+        let last = last_of(&waiting.job, known, &until)?;
         self.give_last(id, known, last)
     }
 
@@ -304,10 +313,10 @@ impl<J: Recurring<T>, T: Clocked> Scheduler<J, T> {
             return Ok(Again::NotStopped);
         }
         let next = next_of(&waiting.job, &waiting.position)?;
-        change_turn(&mut self.turns, &waiting.next, &next, id)?;
-        let again = next.again_result();
+        make_room(&mut self.turns, &self.jobs)?;
         self.jobs.renew(id, next);
-        Ok(again)
+        await_next(&mut self.turns, &self.jobs, next, id);
+        Ok(next.again_result())
     }
 
     /// The jobs with their ids, in the order of the ids. Takes no memory; the iterator borrows the scheduler.
@@ -337,11 +346,10 @@ impl<J: Recurring<T>, T: Clocked> Scheduler<J, T> {
         ensures removed { IsRemoved id (held_of T.moment self.old) (held_of T.moment self.new) }
         ensures count { (held_of T.moment self.new).count + (if is_some result then 1 else 0) ≡ (held_of T.moment self.old).count }
     {
-        match self.jobs.remove(id) {
-            Some(waiting) => {
-                take_out_next(&mut self.turns, &waiting.next, id);
-                Some(waiting.into_parts())
-            }
+        let removed = self.jobs.remove(id);
+        settle(&mut self.turns, &self.jobs);
+        match removed {
+            Some(waiting) => Some(waiting.into_parts()),
             None => None,
         }
     }
@@ -357,7 +365,7 @@ impl<J: Recurring<T>, T: Clocked> Scheduler<J, T> {
     // The nearest run that is left.
     fn nearest_turn(&self) -> Option<Turn>
         ensures nearest { IsNearest J.runs (held_of T.moment self.now) result }
-        ensures turn { IfSome result (λ turn. has_turn self.now.turns turn.second turn.id ≡ true) }
+        ensures turn { IfSome result (λ turn. is_awaited_at turn.second (job_of self.now.jobs turn.id) ≡ true) }
         ensures awaited { AwaitsFirst (held_of T.moment self.now) result }
     {
         first_turn(&self.turns)
@@ -366,7 +374,7 @@ impl<J: Recurring<T>, T: Clocked> Scheduler<J, T> {
     // Gives the nearest run, if it is no later than now.
     fn give_by(&mut self, turn: Turn, now: i64) -> Result<Option<Due>, AllocError>
         requires nearest { IsNearest J.runs (held_of T.moment self.old) (Some turn) }
-        requires turn { has_turn self.old.turns turn.second turn.id ≡ true }
+        requires turn { is_awaited_at turn.second (job_of self.old.jobs turn.id) ≡ true }
         requires awaited { AwaitsFirst (held_of T.moment self.old) (Some turn) }
         ensures taken { IfOk result (λ due. TakesDue J.runs now (held_of T.moment self.old) (held_of T.moment self.new) (option_map turn_of due)) }
         ensures awaited { IfOk result (λ due. TakesAwaited (held_of T.moment self.old) now (option_map turn_of due)) }
@@ -383,22 +391,29 @@ impl<J: Recurring<T>, T: Clocked> Scheduler<J, T> {
 
     // Gives the run of a turn, which becomes its job's position. Returns whether the job is stopped.
     fn give(&mut self, turn: Turn) -> Result<bool, AllocError>
-        requires { has_turn self.old.turns turn.second turn.id ≡ true }
+        requires { is_awaited_at turn.second (job_of self.old.jobs turn.id) ≡ true }
         ensures given { OnOk result (MovesTo (held_of T.moment self.old) turn.id turn.second (held_of T.moment self.new)) }
         ensures told { IfOk result (TellsStop (held_of T.moment self.new) turn.id) }
         ensures refused { OnErr result (IsSame (held_of T.moment self.old) (held_of T.moment self.new)) }
     {
-        let next = self.jobs.next_but_one(turn.id)?;
-        await_next(&mut self.turns, &next, turn.id)?;
-        take_out_turn(&mut self.turns, turn.second, turn.id);
-        let is_stopped = next.is_stopped();
-        self.jobs.step(turn.id, next);
-        Ok(is_stopped)
+        match self.run_of(turn) {
+            Some(time) => self.move_to(turn.id, time),
+            None => Ok(false),
+        }
+    }
+
+    // The time of the run of a turn. There is one: the zone of the job holds its second.
+    fn run_of(&self, turn: Turn) -> Option<T>
+        requires { is_awaited_at turn.second (job_of self.now.jobs turn.id) ≡ true }
+        ensures { IsRunOf T.moment (held_of T.moment self.now) turn result }
+    {
+        let waiting = self.jobs.get(turn.id)?;
+        waiting.position.at_second(turn.second)
     }
 
     // Gives the last due run of a job: the one that its search found, or its next run.
     fn give_last(&mut self, id: u64, known: i64, last: Last<T>) -> Result<Latest, AllocError>
-        requires turn { has_turn self.old.turns known id ≡ true }
+        requires turn { is_awaited_at known (job_of self.old.jobs id) ≡ true }
         requires can { IsSomeAnd ((held_of T.moment self.old).jobs id) (CanGive T.moment last) }
         ensures given { IfOk result (IsLastGiven T.moment (held_of T.moment self.old) id known last (held_of T.moment self.new)) }
         ensures told { IfOk result (LatestTellsStop id (held_of T.moment self.new)) }
@@ -459,19 +474,19 @@ impl<J: Recurring<T>, T: Clocked> Scheduler<J, T> {
         ensures returned { IfErr result (λ returned. returned ≡ other) }
         ensures same { OnErr result (IsSame (held_of T.moment self.old) (held_of T.moment self.new)) }
     {
-        let Some(waiting) = self.jobs.get(id) else {
+        let Ok(()) = make_room(&mut self.turns, &self.jobs) else {
             return Err(other);
         };
-        let Ok(()) = change_turn(&mut self.turns, &waiting.next, &other.next, id) else {
-            return Err(other);
-        };
-        let is_stopped = other.is_stopped();
+        let next = other.next;
         match self.jobs.exchange(id, other) {
-            Ok((job, position)) => Ok(Replaced {
-                job,
-                position,
-                is_stopped,
-            }),
+            Ok((job, position)) => {
+                await_next(&mut self.turns, &self.jobs, next, id);
+                Ok(Replaced {
+                    job,
+                    position,
+                    is_stopped: next.is_stopped(),
+                })
+            }
             Err(other) => Err(other),
         }
     }
@@ -499,10 +514,10 @@ impl<J: Recurring<T>, T: Clocked> Scheduler<J, T> {
             return Ok(false);
         };
         let next = next_of(&waiting.job, &position)?;
-        change_turn(&mut self.turns, &waiting.next, &next, id)?;
-        let is_stopped = next.is_stopped();
+        make_room(&mut self.turns, &self.jobs)?;
         self.jobs.move_to(id, position, next);
-        Ok(is_stopped)
+        await_next(&mut self.turns, &self.jobs, next, id);
+        Ok(next.is_stopped())
     }
 
     // Adds a job at a position; `given` is the position that the caller passed.
@@ -537,17 +552,19 @@ impl<J: Recurring<T>, T: Clocked> Scheduler<J, T> {
         ensures returned { IfErr result (λ returned. returned ≡ waiting) }
         ensures same { OnErr result (IsSame (held_of T.moment self.old) (held_of T.moment self.new)) }
     {
-        let id = self.jobs.next_id();
-        let Ok(()) = await_next(&mut self.turns, &waiting.next, id) else {
+        let Ok(()) = make_room(&mut self.turns, &self.jobs) else {
             return Err(waiting);
         };
-        let is_stopped = waiting.is_stopped();
+        let next = waiting.next;
         match self.jobs.add(waiting) {
-            Ok(id) => Ok(Added { id, is_stopped }),
-            Err(returned) => {
-                take_out_next(&mut self.turns, &returned.next, id);
-                Err(returned)
+            Ok(id) => {
+                await_next(&mut self.turns, &self.jobs, next, id);
+                Ok(Added {
+                    id,
+                    is_stopped: next.is_stopped(),
+                })
             }
+            Err(returned) => Err(returned),
         }
     }
 }

@@ -1,12 +1,16 @@
 //! The turns of the next runs: by their seconds, and at one second by the ids of their jobs.
-ghost use Rattle.std.specs.Prelude.{◌≡◌, ℕ, ℤ, true, false, cond, OnOk, OnErr};
+ghost use Rattle.std.specs.Prelude.{◌≡◌, ◌<◌, ◌≤◌, ◌+◌, ℕ, ℤ, length, true, false, cond, is_some, OnOk};
+ghost use Rattle.std.specs.BinaryHeap.{heap_items, heap_len, heap_capacity, IsHeap, KeepsHeap};
 ghost use Rattle.croner_scheduler.specs.Calls.{turn_of};
-ghost use Rattle.croner_scheduler.specs.Private.Turns.{has_turn, is_turn, is_next_turn, IsFirstTurn, is_same_turn};
+ghost use Rattle.croner_scheduler.specs.Ids.{job_of};
+ghost use Rattle.croner_scheduler.specs.Private.Turns.{heap_cmp, has_turn, is_next_turn, top_of, IsFirstTurn, AreListed, AreListedBut, AreTurnsOf};
 
+use crate::jobs::Jobs;
+use crate::room::{GONE_PART, LEAST_ROOM, ROOM_PART};
 use crate::waiting::Next;
-use croner::Clocked;
 use std::alloc::AllocError;
-use std::collections::BTreeSet;
+use std::cmp::Reverse;
+use std::collections::BinaryHeap;
 
 /// A run that is given: of which job, when, and whether the job is stopped.
 #[derive(Debug, Clone, Copy, PartialEq, Eq)]
@@ -26,6 +30,10 @@ pub(crate) struct Turn {
     pub(crate) second: i64,
 }
 
+// Turns by their seconds and ids, the first one on top. Each next run has its turn there. A turn stays after its job has gone or moved, until
+// it comes to the top: what is on top is always the turn of a next run.
+pub(crate) type Turns = BinaryHeap<Reverse<(i64, u64)>>;
+
 // The run of a turn, of a job that is stopped or not.
 pub(crate) fn due_of(turn: Turn, is_stopped: bool) -> Due
     ensures turn { turn_of result ≡ turn }
@@ -39,94 +47,113 @@ pub(crate) fn due_of(turn: Turn, is_stopped: bool) -> Due
 }
 
 // The first turn.
-pub(crate) fn first_turn(turns: &BTreeSet<(i64, u64)>) -> Option<Turn>
-    ensures { IsFirstTurn (has_turn turns.now) result }
+pub(crate) fn first_turn(turns: &Turns) -> Option<Turn>
+    requires { IsHeap heap_cmp (heap_items turns.now) }
+    ensures top { result ≡ top_of (heap_items turns.now) }
+    ensures first { IsFirstTurn (has_turn (heap_items turns.now)) result }
 {
-    match turns.first() {
+    match turns.peek() {
         Some(turn) => Some(turn_at(turn)),
         None => None,
     }
 }
 
-fn turn_at(turn: &(i64, u64)) -> Turn
-    ensures second { result.second ≡ turn.now.0 }
-    ensures id { result.id ≡ turn.now.1 }
+fn turn_at(turn: &Reverse<(i64, u64)>) -> Turn
+    ensures second { result.second ≡ turn.now.0.0 }
+    ensures id { result.id ≡ turn.now.0.1 }
 {
-    let (second, id) = *turn;
+    let Reverse((second, id)) = *turn;
     Turn { id, second }
 }
 
-// Adds the turn of a job's next run, if it has one.
-pub(crate) fn await_next<T: Clocked>(
-    turns: &mut BTreeSet<(i64, u64)>,
-    next: &Next<T>,
-    id: u64,
-) -> Result<(), AllocError>
-    ensures added { OnOk result ((second : ℤ) (other : ℕ) → has_turn turns.new second other
-        ≡ cond (is_next_turn T.moment next.now id second other) true (has_turn turns.old second other)) }
-    ensures kept { OnErr result ((second : ℤ) (other : ℕ) → has_turn turns.new second other ≡ has_turn turns.old second other) }
+// Makes room for one more turn.
+pub(crate) fn make_room<J, T>(turns: &mut Turns, jobs: &Jobs<J, T>) -> Result<(), AllocError>
+    requires { AreTurnsOf (job_of jobs.now) (heap_items turns.old) }
+    ensures turns { AreTurnsOf (job_of jobs.now) (heap_items turns.new) }
+    ensures room { OnOk result (heap_len turns.new < heap_capacity turns.new) }
 {
-    match next {
-        Next::Run(run) => add_turn(turns, run.second(), id),
-        Next::Over | Next::Stopped(_) => Ok(()),
-    }
+    thin_out(turns, jobs);
+    take_room(turns)
 }
 
-// Removes the turn of a job's next run, if it has one.
-pub(crate) fn take_out_next<T: Clocked>(turns: &mut BTreeSet<(i64, u64)>, next: &Next<T>, id: u64)
-    ensures { (second : ℤ) (other : ℕ) → has_turn turns.new second other
-        ≡ cond (is_next_turn T.moment next.now id second other) false (has_turn turns.old second other) }
+// Puts the turns of the next runs anew, where there is no room for another and an eighth of the turns is of no job.
+fn thin_out<J, T>(turns: &mut Turns, jobs: &Jobs<J, T>)
+    requires { AreTurnsOf (job_of jobs.now) (heap_items turns.old) }
+    ensures { AreTurnsOf (job_of jobs.now) (heap_items turns.new) }
 {
-    match next {
-        Next::Run(run) => take_out_turn(turns, run.second(), id),
-        Next::Over | Next::Stopped(_) => {}
+    if turns.len() < turns.capacity() || turns.len() - turns.len() / GONE_PART < jobs.len() {
+        return;
     }
+    put_anew(turns, jobs);
+    settle(turns, jobs);
 }
 
-// Replaces the turn of a job's old next run by that of its new one.
-#[tactic(auto, using(crate::proofs::Puts::taken_after, crate::proofs::Puts::kept_turn))]
-pub(crate) fn change_turn<T: Clocked>(
-    turns: &mut BTreeSet<(i64, u64)>,
-    old: &Next<T>,
-    next: &Next<T>,
-    id: u64,
-) -> Result<(), AllocError>
-    ensures changed { OnOk result ((second : ℤ) (other : ℕ) → has_turn turns.new second other
-        ≡ cond (is_next_turn T.moment next.now id second other) true
-        (cond (is_next_turn T.moment old.now id second other) false (has_turn turns.old second other))) }
-    ensures kept { OnErr result ((second : ℤ) (other : ℕ) → has_turn turns.new second other ≡ has_turn turns.old second other) }
+// Takes room for one more.
+fn take_room(turns: &mut Turns) -> Result<(), AllocError>
+    ensures turns { heap_items turns.new ≡ heap_items turns.old }
+    ensures room { OnOk result (heap_len turns.new < heap_capacity turns.new) }
 {
-    await_next(turns, next, id)?;
-    if is_same_turn(old, next) {
+    if turns.len() < turns.capacity() {
         return Ok(());
     }
-    take_out_next(turns, old, id);
-    Ok(())
+    turns.reserve_exact(turns.len() / ROOM_PART + LEAST_ROOM)
 }
 
-// Whether two next runs are at one second.
-fn is_same_turn<T: Clocked>(old: &Next<T>, next: &Next<T>) -> bool
-    ensures { result ≡ is_same_turn T.moment old.now next.now }
+// Puts the turns of the next runs in place of all turns. There has to be room for that many.
+fn put_anew<J, T>(turns: &mut Turns, jobs: &Jobs<J, T>)
+    requires { length jobs.now.entries ≤ heap_capacity turns.old }
+    ensures ordered { IsHeap heap_cmp (heap_items turns.new) }
+    ensures listed { AreListed (job_of jobs.now) (heap_items turns.new) }
 {
-    match (old, next) {
-        (Next::Run(a), Next::Run(b)) => a.second() == b.second(),
-        (Next::Over | Next::Stopped(_), _) | (_, Next::Over | Next::Stopped(_)) => false,
+    turns.clear();
+    let mut left = jobs.iter();
+    while let Some((id, waiting)) = left.next() {
+        put(turns, waiting.next, id);
     }
 }
 
-fn add_turn(turns: &mut BTreeSet<(i64, u64)>, second: i64, id: u64) -> Result<(), AllocError>
-    ensures added { OnOk result ((at : ℤ) (other : ℕ) → has_turn turns.new at other
-        ≡ cond (is_turn second id at other) true (has_turn turns.old at other)) }
-    ensures kept { OnErr result ((at : ℤ) (other : ℕ) → has_turn turns.new at other ≡ has_turn turns.old at other) }
+// Puts the turn of a job's next run there, if it has one. There has to be room for it.
+fn put(turns: &mut Turns, next: Next, id: u64)
+    requires { heap_len turns.old < heap_capacity turns.old }
+    ensures ordered { KeepsHeap heap_cmp (heap_items turns.old) (heap_items turns.new) }
+    ensures put { (second : ℤ) (other : ℕ) → has_turn (heap_items turns.new) second other
+        ≡ cond (is_next_turn next id second other) true (has_turn (heap_items turns.old) second other) }
+    ensures len { heap_len turns.new ≤ heap_len turns.old + 1 }
+    ensures capacity { heap_capacity turns.old ≤ heap_capacity turns.new }
 {
-    turns.insert((second, id))?;
-    Ok(())
+    if let Next::Run(second) = next {
+        let _ = turns.push(Reverse((second, id)));
+    }
 }
 
-// Takes out a turn.
-pub(crate) fn take_out_turn(turns: &mut BTreeSet<(i64, u64)>, second: i64, id: u64)
-    ensures { (at : ℤ) (other : ℕ) → has_turn turns.new at other
-        ≡ cond (is_turn second id at other) false (has_turn turns.old at other) }
+// Takes turns away until the first one is that of a next run.
+pub(crate) fn settle<J, T>(turns: &mut Turns, jobs: &Jobs<J, T>)
+    requires ordered { IsHeap heap_cmp (heap_items turns.old) }
+    requires listed { AreListed (job_of jobs.now) (heap_items turns.old) }
+    ensures { AreTurnsOf (job_of jobs.now) (heap_items turns.new) }
 {
-    turns.remove(&(second, id));
+    while let Some(turn) = first_turn(turns) {
+        if jobs.is_awaiting(turn) {
+            return;
+        }
+        turns.pop();
+    }
+}
+
+// Puts the turn of a job's new next run there, if it has one. There has to be room for it.
+pub(crate) fn await_next<J, T>(turns: &mut Turns, jobs: &Jobs<J, T>, next: Next, id: u64)
+    requires room { heap_len turns.old < heap_capacity turns.old }
+    requires ordered { IsHeap heap_cmp (heap_items turns.old) }
+    requires listed { AreListedBut (job_of jobs.now) next id (heap_items turns.old) }
+    ensures { AreTurnsOf (job_of jobs.now) (heap_items turns.new) }
+{
+    put(turns, next, id);
+    settle(turns, jobs);
+}
+
+// Takes room for so many more, and for one besides: where a run is given, the turn of the next one is put there before its own is taken away.
+pub(crate) fn reserve(turns: &mut Turns, additional: usize) -> Result<(), AllocError>
+    ensures { heap_items turns.new ≡ heap_items turns.old }
+{
+    turns.reserve_exact(additional.saturating_add(1))
 }

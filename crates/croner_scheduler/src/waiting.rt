@@ -1,14 +1,13 @@
 //! A job with its position and its next run.
 ghost use Rattle.std.specs.Prelude.{◌≡◌, is_some, option_map, IfOk, IfErr};
-ghost use Rattle.croner_scheduler.specs.Kept.{standing_of, stop_of, run_of, FitsNext, Fits};
-ghost use Rattle.croner_scheduler.specs.Private.Latest.{due_run};
-ghost use Rattle.croner_scheduler.specs.Private.Steps.{next_of_run, next_of_refusal, IsSecondBefore, FitsAfter, job_after_run, job_at_position, job_standing_at, is_next_after, job_with_next, again_of, refusal_of};
+ghost use Rattle.croner_scheduler.specs.Kept.{standing_of, stop_of, second_of, FitsNext, Fits};
+ghost use Rattle.croner_scheduler.specs.Private.Latest.{due_second};
+ghost use Rattle.croner_scheduler.specs.Private.Steps.{next_of_run, next_of_refusal, IsSecondBefore, job_at_position, job_standing_at, is_next_at, is_next_after, job_with_next, again_of, refusal_of};
 
 use crate::Again;
 use croner::errors::CronError;
 use croner::{Clocked, Recurring};
 use std::alloc::AllocError;
-use std::mem;
 
 /// How a backend refused a search: it doesn't hold a moment that the search needs. [`CronError`] is made of it by `From`.
 #[derive(Debug, Clone, Copy)]
@@ -29,17 +28,17 @@ pub enum Stop {
 }
 
 /// The next run of a job, or why there is none.
-#[derive(Debug, Drop)]
-pub(crate) enum Next<T> {
-    // A run.
-    Run(T),
+#[derive(Debug, Clone, Copy)]
+pub(crate) enum Next {
+    // A run, at this second, which the clock of the job's position holds.
+    Run(i64),
     // No run in the searched years.
     Over,
     // Nothing, since no run could be found.
     Stopped(Stop),
 }
 
-impl<T> Next<T> {
+impl Next {
     // Whether the job is stopped.
     pub(crate) fn is_stopped(&self) -> bool
         ensures { result ≡ is_some (stop_of self.now) }
@@ -67,7 +66,7 @@ impl<T> Next<T> {
 pub struct Waiting<J, T> {
     pub(crate) job: J,
     pub(crate) position: T,
-    pub(crate) next: Next<T>,
+    pub(crate) next: Next,
 }
 
 impl<J, T> Waiting<J, T> {
@@ -87,12 +86,13 @@ impl<J, T> Waiting<J, T> {
         &self.position
     }
 
-    /// The run that is given next; `None` where no run is left in the searched years, or the job is stopped.
-    pub fn next_run(&self) -> Option<&T>
-        ensures { option_map (λ t. t.now) result ≡ run_of self.now.next }
+    /// The second of the run that is given next, which the clock of the position holds: [`Clocked::at_second`] gives the time of the run.
+    /// `None` where no run is left in the searched years, or the job is stopped.
+    pub fn next_second(&self) -> Option<i64>
+        ensures { result ≡ second_of self.now.next }
     {
-        match &self.next {
-            Next::Run(run) => Some(run),
+        match self.next {
+            Next::Run(second) => Some(second),
             Next::Over | Next::Stopped(_) => None,
         }
     }
@@ -107,19 +107,8 @@ impl<J, T> Waiting<J, T> {
         }
     }
 
-    // Steps to its next run.
-    pub(crate) fn step(&mut self, next: Next<T>)
-    where
-        T: Drop,
-        ensures { self.new ≡ job_after_run next self.old }
-    {
-        if let Next::Run(run) = mem::replace(&mut self.next, next) {
-            self.position = run;
-        }
-    }
-
     // Moves to another position.
-    pub(crate) fn move_to(&mut self, position: T, next: Next<T>)
+    pub(crate) fn move_to(&mut self, position: T, next: Next)
     where
         T: Drop,
         ensures { self.new ≡ job_at_position position next self.old }
@@ -138,9 +127,7 @@ impl<J, T> Waiting<J, T> {
     }
 
     // Has another run next.
-    pub(crate) fn renew(&mut self, next: Next<T>)
-    where
-        T: Drop,
+    pub(crate) fn renew(&mut self, next: Next)
         ensures { self.new ≡ job_with_next next self.old }
     {
         self.next = next;
@@ -151,6 +138,16 @@ impl<J, T> Waiting<J, T> {
         ensures { result ≡ is_some (stop_of self.now.next) }
     {
         self.next.is_stopped()
+    }
+
+    // Whether its next run is at a second.
+    pub(crate) fn runs_at(&self, second: i64) -> bool
+        ensures { result ≡ is_next_at second self.now.next }
+    {
+        match self.next {
+            Next::Run(run) => run == second,
+            Next::Over | Next::Stopped(_) => false,
+        }
     }
 
     // The job and its position.
@@ -190,31 +187,21 @@ impl<J: Recurring<T>, T: Clocked> Waiting<J, T> {
 
     // Whether its next run is later than a second.
     pub(crate) fn runs_after(&self, second: i64) -> bool
-        ensures { result ≡ is_next_after T.moment second self.now.next }
+        ensures { result ≡ is_next_after second self.now.next }
     {
-        match &self.next {
-            Next::Run(run) => second < run.second(),
+        match self.next {
+            Next::Run(run) => second < run,
             Next::Over | Next::Stopped(_) => false,
         }
     }
 
-    // Its next run, if that lies no later than a second.
-    pub(crate) fn due_run(&self, now: i64) -> Option<&T>
-        ensures { option_map (λ t. t.now) result ≡ due_run T.moment now self.now.next }
+    // The second of its next run, if that is no later than now.
+    pub(crate) fn due_second(&self, now: i64) -> Option<i64>
+        ensures { result ≡ due_second now self.now.next }
     {
-        match &self.next {
-            Next::Run(run) if run.second() <= now => Some(run),
+        match self.next {
+            Next::Run(run) if run <= now => Some(run),
             Next::Run(_) | Next::Over | Next::Stopped(_) => None,
-        }
-    }
-
-    // What comes next after its next run.
-    pub(crate) fn next_but_one(&self) -> Result<Next<T>, AllocError>
-        ensures { IfOk result (FitsAfter (J.runs self.now.job) T.moment self.now.next) }
-    {
-        match &self.next {
-            Next::Run(run) => next_of(&self.job, run),
-            Next::Over | Next::Stopped(_) => Ok(Next::Over),
         }
     }
 }
@@ -231,25 +218,26 @@ pub(crate) fn second_before<T: Clocked>(time: &T) -> Option<T>
 }
 
 // What comes next of a job from a position.
-#[tactic(auto, using(crate::proofs::NextRuns::fits_found, crate::proofs::NextRuns::fits_refused))]
+#[tactic(auto, using(crate::proofs::NextRuns::fits_refused))]
 pub(crate) fn next_of<J: Recurring<T>, T: Clocked>(
     job: &J,
     position: &T,
-) -> Result<Next<T>, AllocError>
-    ensures { IfOk result (FitsNext (J.runs job.now) T.moment (T.moment position.now)) }
+) -> Result<Next, AllocError>
+    ensures { IfOk result (FitsNext (J.runs job.now) (T.moment position.now)) }
 {
     match job.next_after(position) {
-        Ok(found) => Ok(next_of_run(position, found)),
+        Ok(found) => Ok(next_of_run(position, &found)),
         Err(refusal) => next_of_refusal(refusal),
     }
 }
 
 // What a run that was found is.
-fn next_of_run<T: Clocked>(position: &T, found: T) -> Next<T>
-    ensures { result ≡ next_of_run T.moment position.now found }
+fn next_of_run<T: Clocked>(position: &T, found: &T) -> Next
+    ensures { result ≡ next_of_run (T.moment position.now).instant (T.moment found.now).instant }
 {
-    if position.second() < found.second() {
-        Next::Run(found)
+    let second = found.second();
+    if position.second() < second {
+        Next::Run(second)
     } else {
         Next::Stopped(Stop::NotLater)
     }
@@ -288,7 +276,7 @@ pub(crate) fn refusal_of(error: CronError) -> Refusal
 }
 
 // What a refusal is.
-fn next_of_refusal<T>(refusal: CronError) -> Result<Next<T>, AllocError>
+fn next_of_refusal(refusal: CronError) -> Result<Next, AllocError>
     ensures { result ≡ next_of_refusal refusal }
 {
     match refusal {

@@ -20,7 +20,7 @@ shown_or_named : (shown_of (seen false) ≡ day) × (named_of (seen false) ≡ [
     × (end_with (pos 86_400) (seen false) ≡ pos 80_000) × (end_with (pos 86_400) (seen true) ≡ pos 86_400)
 shown_or_named = (refl, refl, refl, refl, refl, refl)
 
--- want of memory and what a clock refuses keep a job from being listed; what a text is refused for doesn't
+-- lack of memory and what a clock refuses keep a job from being listed; what a text is refused for doesn't
 not_listed : IsNotListed errors.OutOfMemory × IsNotListed errors.InvalidDate × IsNotListed errors.InvalidTime
 not_listed = (inl refl, inr (inl refl), inr (inr refl))
 

@@ -8,6 +8,8 @@ use Rattle.crontab.specs.declared.line.Entry.{Entry}
 use Rattle.crontab.specs.declared.line.Entry.TheVariants as entries
 use Rattle.crontab.specs.declared.line.FieldWords.{FieldWords}
 use Rattle.crontab.specs.declared.line.Texts.{Texts}
+use Rattle.crontab.specs.declared.line.Stop.{Stop}
+use Rattle.crontab.specs.declared.line.Stop.TheVariants as stops
 use Rattle.crontab.specs.Line.{Timing, FiveTexts, reboot, never, named, Five, Task, Line, blank, comment, setting, job, pattern, refused}
 
 -- the times of a job
@@ -69,3 +71,9 @@ texts_read (Ok t) = Ok (record {
   weekdays = string_bytes t.weekdays;
 })
 texts_read (Err fault) = Err fault
+
+-- what was read, or the fault, is so; lack of memory says nothing of the line
+abbrev pub IfRead : {X : Type 0} → Result X Stop → (Result X Fault → Type 0) → Type 0
+IfRead (Ok x) P = P (Ok x)
+IfRead (Err (stops.Refused fault)) P = P (Err fault)
+IfRead (Err stops.OutOfMemory) P = ⊤

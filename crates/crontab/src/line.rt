@@ -5,7 +5,7 @@ ghost use Rattle.crontab.specs.declared.bytes.Kind.TheVariants as kinds;
 ghost use Rattle.crontab.specs.Bytes.{front, text_after, text_before, rest_of};
 ghost use Rattle.crontab.specs.Line.{named, pattern_of_nickname, nickname_of, next, text_after_fields, words_of, are_both, spaced_text, times_of_fields, texts_of, times_of, with_command, job_of_user, job_of_system, job_with_times, job_of_nickname, job_of_fields, entry_of_text, entry_of_pattern, job_of_line, is_system, are_patterns, entry_of};
 ghost use Rattle.crontab.specs.Line as Spec;
-ghost use Rattle.crontab.specs.Entries.{times_seen, words_seen, texts_read, read_seen, job_read, entry_seen, LiesIn};
+ghost use Rattle.crontab.specs.Entries.{times_seen, words_seen, texts_read, read_seen, job_read, entry_seen, LiesIn, IfRead};
 ghost use Rattle.crontab.specs.Place.{NamesPlace};
 
 use crate::bytes::{Kind, begins_with, cut, rest_of, text_before, trim_end};
@@ -362,46 +362,60 @@ fn times_of_fields(alloc: Global, both: bool, texts: &Texts) -> Result<Times, Al
     )
 }
 
+/// Why the reading of a line stops: it is refused, or memory runs out.
+#[derive(Clone, Copy, Drop)]
+enum Stop {
+    Refused(Fault),
+    OutOfMemory,
+}
+
+impl From<Fault> for Stop {
+    ghost use Rattle.crontab.specs.declared.line.Stop.TheVariants as stops;
+
+    ghost from_gives = { λ fault stop. stop ≡ stops.Refused fault };
+
+    fn from(fault: Fault) -> Stop {
+        Stop::Refused(fault)
+    }
+}
+
+impl From<AllocError> for Stop {
+    ghost use Rattle.crontab.specs.declared.line.Stop.TheVariants as stops;
+
+    ghost from_gives = { λ error stop. stop ≡ stops.OutOfMemory };
+
+    fn from(_error: AllocError) -> Stop {
+        Stop::OutOfMemory
+    }
+}
+
 // The texts of five fields, or the first that cron does not take.
-fn texts_of(alloc: Global, words: FieldWords<'_>) -> Result<Result<Texts, Fault>, AllocError>
-    ensures { IfOk result (λ read. texts_read read ≡ texts_of (words_seen words.entry)) }
+fn texts_of(alloc: Global, words: FieldWords<'_>) -> Result<Texts, Stop>
+    ensures { IfRead result (λ read. texts_read read ≡ texts_of (words_seen words.entry)) }
 {
-    let Some(minutes) = field_text(alloc, MINUTES, words.minutes)? else {
-        return Ok(Err(Fault::Minutes));
-    };
-    let Some(hours) = field_text(alloc, HOURS, words.hours)? else {
-        return Ok(Err(Fault::Hours));
-    };
-    let Some(days) = field_text(alloc, DAYS, words.days)? else {
-        return Ok(Err(Fault::Days));
-    };
-    let Some(months) = field_text(alloc, MONTHS, words.months)? else {
-        return Ok(Err(Fault::Months));
-    };
-    let Some(weekdays) = field_text(alloc, WEEKDAYS, words.weekdays)? else {
-        return Ok(Err(Fault::Weekdays));
-    };
-    Ok(Ok(Texts {
+    let minutes = field_text(alloc, MINUTES, words.minutes)?.ok_or(Fault::Minutes)?;
+    let hours = field_text(alloc, HOURS, words.hours)?.ok_or(Fault::Hours)?;
+    let days = field_text(alloc, DAYS, words.days)?.ok_or(Fault::Days)?;
+    let months = field_text(alloc, MONTHS, words.months)?.ok_or(Fault::Months)?;
+    let weekdays = field_text(alloc, WEEKDAYS, words.weekdays)?.ok_or(Fault::Weekdays)?;
+    Ok(Texts {
         minutes,
         hours,
         days,
         months,
         weekdays,
-    }))
+    })
 }
 
 // The times of five words, or the fault.
-fn times_of(alloc: Global, words: FieldWords<'_>) -> Result<Result<Times, Fault>, AllocError>
-    ensures { IfOk result (λ read. read_seen read ≡ times_of (words_seen words.entry)) }
+fn times_of(alloc: Global, words: FieldWords<'_>) -> Result<Times, Stop>
+    ensures { IfRead result (λ read. read_seen read ≡ times_of (words_seen words.entry)) }
 {
-    match texts_of(alloc, words)? {
-        Err(fault) => Ok(Err(fault)),
-        Ok(_) if begins_with(words.rest, END_OF_FILE) => Ok(Err(Fault::Weekdays)),
-        Ok(texts) => {
-            let times = times_of_fields(alloc, are_both(words), &texts)?;
-            Ok(Ok(times))
-        }
+    let texts = texts_of(alloc, words)?;
+    if begins_with(words.rest, END_OF_FILE) {
+        return Err(Stop::Refused(Fault::Weekdays));
     }
+    Ok(times_of_fields(alloc, are_both(words), &texts)?)
 }
 
 // A job, unless its command is too long.
@@ -461,46 +475,28 @@ fn job_with_times<'l>(
 }
 
 // A line with a nickname.
-fn job_of_nickname(
-    alloc: Global,
-    system: bool,
-    text: &[u8],
-) -> Result<Result<Job<'_>, Fault>, AllocError>
-    ensures { IfOk result (λ read. job_read read ≡ job_of_nickname system text.now (nickname_of (front kinds.Word (rest_of text.now)))) }
+fn job_of_nickname(alloc: Global, system: bool, text: &[u8]) -> Result<Job<'_>, Stop>
+    ensures { IfRead result (λ read. job_read read ≡ job_of_nickname system text.now (nickname_of (front kinds.Word (rest_of text.now)))) }
 {
     let (schedule, rest) = word(text);
     let (name, _) = cut(rest_of(text), Kind::Word);
-    match nickname_of(alloc, name)? {
-        Some(times) => Ok(job_with_times(system, times, schedule, rest)),
-        None => Ok(Err(Fault::Nickname)),
-    }
+    let times = nickname_of(alloc, name)?.ok_or(Fault::Nickname)?;
+    Ok(job_with_times(system, times, schedule, rest)?)
 }
 
 // A line with five fields.
-fn job_of_fields(
-    alloc: Global,
-    system: bool,
-    text: &[u8],
-) -> Result<Result<Job<'_>, Fault>, AllocError>
-    ensures { IfOk result (λ read. job_read read ≡ job_of_fields system text.now (times_of (words_of text.now))) }
+fn job_of_fields(alloc: Global, system: bool, text: &[u8]) -> Result<Job<'_>, Stop>
+    ensures { IfRead result (λ read. job_read read ≡ job_of_fields system text.now (times_of (words_of text.now))) }
 {
     let words = words_of(text);
-    match times_of(alloc, words)? {
-        Ok(times) => {
-            let schedule = text_before(text, text_after_fields(text));
-            Ok(job_with_times(system, times, schedule, words.rest))
-        }
-        Err(fault) => Ok(Err(fault)),
-    }
+    let times = times_of(alloc, words)?;
+    let schedule = text_before(text, text_after_fields(text));
+    Ok(job_with_times(system, times, schedule, words.rest)?)
 }
 
 // The job of a line that is no setting.
-fn job_of_line(
-    alloc: Global,
-    system: bool,
-    text: &[u8],
-) -> Result<Result<Job<'_>, Fault>, AllocError>
-    ensures { IfOk result (λ read. job_read read ≡ job_of_line system text.now) }
+fn job_of_line(alloc: Global, system: bool, text: &[u8]) -> Result<Job<'_>, Stop>
+    ensures { IfRead result (λ read. job_read read ≡ job_of_line system text.now) }
 {
     if begins_with(text, b'@') {
         job_of_nickname(alloc, system, text)
@@ -538,9 +534,10 @@ fn entry_of_text<'l>(
             is_zone: sets_zone(text),
         });
     }
-    match job_of_line(alloc, system, text)? {
+    match job_of_line(alloc, system, text) {
         Ok(job) => Ok(Entry::Job(job)),
-        Err(fault) => Ok(refused_entry(line, text, system, fault)),
+        Err(Stop::Refused(fault)) => Ok(refused_entry(line, text, system, fault)),
+        Err(Stop::OutOfMemory) => Err(AllocError),
     }
 }
 

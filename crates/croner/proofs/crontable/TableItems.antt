@@ -188,7 +188,7 @@ is_over old cur new items g n without =
 pub gave_all_table : (old cur : TableStanding) (items : List (ℤ × List ℕ)) → TableGoes old cur items → IsTableOver old cur → StartsCalm old.position → GaveAllTable old items
 gave_all_table old cur items g over p = all_given old.direction (IsTableLeft old) (IsTableLeft cur) (InSpan old.direction old.position.zone.reads) (item_instants items) (g.splits p) (over p)
 
--- where what a search needs is held, a call without an item keeps nothing but want of memory
+-- where what a search needs is held, a call without an item keeps nothing but lack of memory
 pub memory_alone : (cur new : TableStanding) → GivesNoTableItem cur new → IsSearchable cur.position → IsMemoryAlone true new.fault
 memory_alone cur new n p =
     let fault : TableStanding → Option CronError = λ s. s.fault in
@@ -218,7 +218,7 @@ module _ {T : Type 0} {d : _} {c : _} (moment : T → Moment) (old : TableStandi
   over_by_call true g (none, without, e) h = is_over old (table_standing_of moment cur) (table_standing_of moment new) (table_items moment before) g none without
   over_by_call false g takes h = absurd (false≢true h)
 
-  -- where what searches need is held, the call keeps nothing but want of memory
+  -- where what searches need is held, the call keeps nothing but lack of memory
   pub fault_by_call : (b : Bool) → TableGoes old (table_standing_of moment cur) (table_items moment before) → TakesTable moment cur new before after b
       → IsSearchable old.position → IsMemoryAlone true (table_standing_of moment new).fault
   fault_by_call true g (none, without, e) p = inl without

@@ -119,7 +119,7 @@ still_over old cur new items item g n over =
     let P : Standing → Type 0 = λ s. IsOver old s in
     subst P (sym n.stands) (λ p i left span. over p i ((next_of cur new item (g.calm p) n).within i left) span)
 
--- where what a search needs is held, a call without an item keeps nothing but want of memory
+-- where what a search needs is held, a call without an item keeps nothing but lack of memory
 memory_alone : (lack : Bool) (cur new : Standing) → GivesNone lack cur new → IsSearchable cur.position → IsMemoryAlone lack new.fault
 memory_alone lack cur new n p =
     let fault : Standing → Option CronError = λ s. s.fault in
@@ -128,7 +128,7 @@ memory_alone lack cur new n p =
       | inr (wanting, can) ↦ inr (ap fault n.stands ∙ ap fault_of wanting, can)
     ]
 
--- and without want of memory nothing at all
+-- and without lack of memory nothing at all
 pub without_fault : (lack : Bool) (cur new : Standing) → GivesNone lack cur new → lack ≡ false → IsSearchable cur.position → new.fault ≡ None
 without_fault lack cur new n memory p =
     elim (memory_alone lack cur new n p) [
@@ -176,7 +176,7 @@ module _ {T : Type 0} (moment : T → Moment) (lack : Bool) (old : Standing) (cu
             subst P (sym e) (All-push (λ x. IsWholeIn old.position.zone (moment x)) before t wholes (record { zone = item.found.zone ∙ g.zone; whole = item.found.whole }))
       ]
 
-  -- where what searches need is held, the call keeps nothing but want of memory
+  -- where what searches need is held, the call keeps nothing but lack of memory
   pub fault_by_call : (b : Bool) → Goes old (standing_of moment cur) (instants moment before) → Takes moment lack cur new before after b
       → IsSearchable old.position → IsMemoryAlone lack (standing_of moment new).fault
   fault_by_call true g (none, without, e) p = inl without

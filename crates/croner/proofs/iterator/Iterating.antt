@@ -10,7 +10,7 @@ use Rattle.croner.specs.search.Searches.{IsFound, IsRefused}
 use Rattle.croner.specs.iterator.Listing.{standing_of, counts_position, moved, Settles, Steps}
 use Rattle.croner.specs.declared.iterator.CronIterator.{CronIterator}
 
--- want of memory for the item of a run that was found is a refusal too
+-- lack of memory for the item of a run that was found is a refusal too
 memory_refused : (lack : Bool) (direction : Direction) (inclusive : Bool) (timetable : Timetable) (start found : Moment) → IsFound direction inclusive timetable start found → IsTrue lack → IsRefused lack direction inclusive timetable start OutOfMemory
 memory_refused lack direction inclusive timetable start found is memory = record {
   limit = λ h limit. absurd (cc);

@@ -107,7 +107,7 @@ module _ (m : Meaning) (start next : Moment) (r : IsReturnable m start) (there :
   pub no_limit : (lack : Bool) (e : CronError) → IsRefused lack Backward false (timetable_of m) next e → e ≡ TimeSearchLimitExceeded → ⊥
   no_limit lack e refused is = none_left (refused.limit calm_next is)
 
-  -- so where what a search needs is held it is want of memory that refuses it
+  -- so where what a search needs is held it is lack of memory that refuses it
   pub only_memory : (lack : Bool) (e : CronError) → IsRefused lack Backward false (timetable_of m) next e → IsSearchable start → (e ≡ OutOfMemory) × IsTrue lack
   only_memory lack e refused p =
       elim (refused.promised (searchable_next p)) [

@@ -66,9 +66,9 @@ pub record IsTableFound (direction : Direction) (inclusive : Bool) (patterns : L
 pub record IsTableRefused (direction : Direction) (inclusive : Bool) (patterns : List Meaning) (start : Moment) (e : CronError) : Type 0 where
   -- in a calm zone and from a whole second the limit says that no run of any pattern is left in the span
   pub limit : StartsCalm start → e ≡ TimeSearchLimitExceeded → NoneInSpanWhere direction start.zone.reads (TableCounts direction inclusive patterns start.zone start.instant)
-  -- where the backend also holds what a search needs, it is the limit or want of memory
+  -- where the backend also holds what a search needs, it is the limit or lack of memory
   pub promised : IsSearchable start → IsLimitOrMemory true e
-  -- in every zone it is the limit, InvalidDate, InvalidTime, or want of memory
+  -- in every zone it is the limit, InvalidDate, InvalidTime, or lack of memory
   pub kind : IsRefusal true e
-  -- and from a start past the years of each pattern it is the limit or want of memory
+  -- and from a start past the years of each pattern it is the limit or lack of memory
   pub past : AllPast direction inclusive patterns start → IsLimitOrMemory true e

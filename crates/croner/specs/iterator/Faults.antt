@@ -16,6 +16,6 @@ abbrev pub fault_of : CronError → Option CronError
 fault_of TimeSearchLimitExceeded = None
 fault_of refusal = Some refusal
 
--- no error, or want of memory where the backend can lack it
+-- no error, or lack of memory where the backend can lack it
 abbrev pub IsMemoryAlone : Bool → Option CronError → Type 0
 IsMemoryAlone lack fault = (fault ≡ None) ⊎ ((fault ≡ Some OutOfMemory) × IsTrue lack)

@@ -177,7 +177,7 @@ pub record IsFault (s : Settings) (text : List ℕ) (refusal : Refusal) (fault :
   pub named : fault.field ≡ named_field text refusal
   pub placed : IsPlaced s text refusal fault
 
--- what a text is explained by: nothing where it has a meaning, else a fault of its refusal; the one error is want of memory
+-- what a text is explained by: nothing where it has a meaning, else a fault of its refusal; the one error is lack of memory
 abbrev pub Explains : Settings → List ℕ → Result (Option PatternFault) CronError → Type 0
 Explains s text (Err e) = e ≡ OutOfMemory
 Explains s text (Ok None) = (m : Meaning) × (outcome s text ≡ Ok m)

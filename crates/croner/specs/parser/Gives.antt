@@ -5,7 +5,7 @@ use Rattle.croner_base.specs.declared.errors.CronError.TheVariants as errors
 use Rattle.croner.specs.declared.parser.fault.PatternField.{PatternField}
 use Rattle.croner.specs.parser.Grammar.{Refusal, Empty, Invalid, Illegal, Component}
 
--- the kind of refusal; want of memory says nothing of the text
+-- the kind of refusal; lack of memory says nothing of the text
 abbrev pub Fails : {Y : Type 0} → CronError → Result Y Refusal → Type 0
 Fails errors.EmptyPattern meaning = meaning ≡ Err Empty
 Fails (errors.InvalidPattern m) meaning = meaning ≡ Err Invalid

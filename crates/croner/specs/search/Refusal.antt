@@ -3,7 +3,7 @@ use Rattle.std.specs.Prelude.{◌≡◌, ◌⊎◌, Bool, IsTrue}
 use Rattle.croner_base.specs.declared.errors.CronError.{CronError}
 use Rattle.croner_base.specs.declared.errors.CronError.TheVariants.{InvalidDate, InvalidTime, TimeSearchLimitExceeded, OutOfMemory}
 
--- the limit, or want of memory where the backend can lack it
+-- the limit, or lack of memory where the backend can lack it
 abbrev pub IsLimitOrMemory : Bool → CronError → Type 0
 IsLimitOrMemory lack e = (e ≡ TimeSearchLimitExceeded) ⊎ ((e ≡ OutOfMemory) × IsTrue lack)
 

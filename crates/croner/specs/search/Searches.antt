@@ -29,9 +29,9 @@ pub record IsFound (direction : Direction) (inclusive : Bool) (timetable : Timet
 pub record IsRefused (lack : Bool) (direction : Direction) (inclusive : Bool) (timetable : Timetable) (start : Moment) (e : CronError) : Type 0 where
   -- in a calm zone and from a whole second the limit says that no run is left in the span
   pub limit : StartsCalm start → e ≡ TimeSearchLimitExceeded → NoneInSpan direction inclusive (job_in start.zone timetable) start.instant
-  -- where the backend also holds what a search needs, it is the limit or want of memory
+  -- where the backend also holds what a search needs, it is the limit or lack of memory
   pub promised : IsSearchable start → IsLimitOrMemory lack e
-  -- in every zone it is the limit, InvalidDate, InvalidTime, or want of memory
+  -- in every zone it is the limit, InvalidDate, InvalidTime, or lack of memory
   pub kind : IsRefusal lack e
   -- and from a start past the years it is the limit
   pub past : IsPast direction inclusive timetable.scheduled (reading start) → e ≡ TimeSearchLimitExceeded

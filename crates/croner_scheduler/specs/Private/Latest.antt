@@ -21,15 +21,15 @@ use Rattle.croner_scheduler.specs.Kept.{StopsAt}
 use Rattle.croner_scheduler.specs.Private.Steps.{refusal_of}
 use Rattle.croner_scheduler.specs.Standing.{Standing, Held}
 
--- the next run, if it lies no later than now
-abbrev pub due_run : {T : Type 0} → (T → Moment) → ℤ → Next T → Option T
-due_run moment now (Run t) = if int_le (moment t).instant now then Some t else None
-due_run moment now other = None
+-- the second of the next run, if it is no later than now
+abbrev pub due_second : ℤ → Next → Option ℤ
+due_second now (Run i) = if int_le i now then Some i else None
+due_second now other = None
 
 -- what a run that was found is, of what has that run next: the last one, if it is later, and no later than the moment from which it was searched
-abbrev pub last_of_run : {T : Type 0} → (T → Moment) → T → T → T → Last T
+abbrev pub last_of_run : {T : Type 0} → (T → Moment) → ℤ → T → T → Last T
 last_of_run moment next until found =
-    if int_lt (moment next).instant (moment found).instant && int_le (moment found).instant (moment until).instant then Later found else Known
+    if int_lt next (moment found).instant && int_le (moment found).instant (moment until).instant then Later found else Known
 
 -- what a refusal is: the limit says that none is later than the next run
 abbrev pub last_of_refusal : {T : Type 0} → CronError → Result (Last T) AllocError
@@ -39,11 +39,11 @@ last_of_refusal other = Ok (Refused (refusal_of other))
 
 -- the last run up to a moment, of what has these runs and that run next: a later one up to there, in a calm zone the last that counts; or the
 -- next run, and in a calm zone none that counts in the span is later; or a refusal, as of a search that stops a job
-abbrev pub FitsLast : {T : Type 0} → (Zone → ℤ → Type 0) → (T → Moment) → T → Moment → Last T → Type 0
+abbrev pub FitsLast : {T : Type 0} → (Zone → ℤ → Type 0) → (T → Moment) → ℤ → Moment → Last T → Type 0
 FitsLast runs moment next m (Later t) =
-    IsRunFound Backward runs m (moment t) × ((moment next).instant <ℤ (moment t).instant) × ((moment t).instant ≤ℤ m.instant)
+    IsRunFound Backward runs m (moment t) × (next <ℤ (moment t).instant) × ((moment t).instant ≤ℤ m.instant)
 FitsLast runs moment next m Known =
-    StartsCalm m → (j : ℤ) → CountsFrom Backward (runs m.zone) m.instant j → InSpan Backward m.zone.reads j → j ≤ℤ (moment next).instant
+    StartsCalm m → (j : ℤ) → CountsFrom Backward (runs m.zone) m.instant j → InSpan Backward m.zone.reads j → j ≤ℤ next
 FitsLast runs moment next m (Refused e) = StopsAt m (stops.Refused e)
 
 -- a later run that is to be given is a whole second of the zone of the job

@@ -11,7 +11,7 @@ use Rattle.croner.specs.search.Limit.{NoneInSpanWhere}
 use Rattle.croner.specs.search.Premises.{IsSearchable, StartsCalm}
 use Rattle.croner.specs.search.Refusal.{IsRefusal, IsLimitOrMemory}
 
--- as `IsTableRefused`, but for want of memory only where the backend can lack it, which the first mark says; and from a start
+-- as `IsTableRefused`, but for lack of memory only where the backend can lack it, which the first mark says; and from a start
 -- past the years of each pattern it is the limit
 pub record IsRefusedInRoom (lack : Bool) (direction : Direction) (inclusive : Bool) (patterns : List Meaning) (start : Moment) (e : CronError) : Type 0 where
   pub limit : StartsCalm start → e ≡ TimeSearchLimitExceeded → NoneInSpanWhere direction start.zone.reads (TableCounts direction inclusive patterns start.zone start.instant)

@@ -32,7 +32,7 @@ refusal_of causes.Invalid = Invalid
 refusal_of (causes.Illegal field) = Illegal field
 refusal_of (causes.Component field part) = Component field part
 
--- a reading stopped since its text is refused so, or for want of memory, which says nothing of the text
+-- a reading stopped since its text is refused so, or for lack of memory, which says nothing of the text
 abbrev pub Stops : {Y : Type 0} → Stop → Result Y Refusal → Type 0
 Stops (stops.Refused cause) meaning = meaning ≡ Err (refusal_of cause)
 Stops stops.OutOfMemory meaning = Unit {0}

@@ -17,6 +17,6 @@ pub record HoldsYears (z : Zone) : Type 0 where
 abbrev pub HoldsSecond : Zone → ℤ → Type 0
 HoldsSecond z w = (c : CivilDateTime) → wall_second c ≡ w → IsSome (z.resolves c)
 
--- the backend's error: want of memory, where it can lack memory, or something that it does not hold
+-- the backend's error: lack of memory, where it can lack memory, or something that it does not hold
 abbrev pub IsBackendError : Bool → Type 0 → CronError → Type 0
 IsBackendError lack unheld e = ((e ≡ OutOfMemory) × IsTrue lack) ⊎ (((e ≡ InvalidDate) ⊎ (e ≡ InvalidTime)) × unheld)

@@ -1,9 +1,15 @@
-use Rattle.std.proofs.Common.{sym, subst}
+use Rattle.std.proofs.Common.{rules, ℤ, sym, subst, w64, SFits}
+use Rattle.std.proofs.lemmas.Int.{to_z-of_z}
 use Rattle.croner_scheduler.proofs.LastRuns.{last_found}
-use Rattle.croner_scheduler.specs.Private.Latest.{FitsLast}
+use Rattle.croner_scheduler.specs.Private.Latest.{last_of_run, FitsLast}
 use Rattle.croner_scheduler.proofs.latest.last_of.Goals as goal
 
 pub returns-in-Ok : goal.returns-in-Ok
 returns-in-Ok g c =
-    subst (FitsLast (g.J.Recurring.runs c.args.job.now) g.T.CronDateTime.moment c.args.next.now (g.T.CronDateTime.moment c.args.until.now)) (sym c.last_of_run.ensures)
-    (last_found (g.J.Recurring.runs c.args.job.now) g.T.CronDateTime.moment c.args.next.now c.args.until.now c.in-Ok.found c.in-Ok.ensures.found)
+    let runs = g.J.Recurring.runs c.args.job.now in
+    let moment = g.T.CronDateTime.moment in
+    let whole : SFits w64 c.args.next = search rules in
+    subst (FitsLast runs moment c.args.next (moment c.args.until.now)) (sym c.last_of_run.ensures)
+    (subst (λ (z : ℤ). FitsLast runs moment c.args.next (moment c.args.until.now) (last_of_run moment z c.args.until.now c.in-Ok.found))
+    (sym (to_z-of_z w64 c.args.next whole))
+    (last_found runs moment c.args.next c.args.until.now c.in-Ok.found c.in-Ok.ensures.found))

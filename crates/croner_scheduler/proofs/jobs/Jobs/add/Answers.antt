@@ -1,4 +1,5 @@
-use Rattle.std.proofs.Common.{ap, ap₂, ◌∙◌, arith, cond, length, nat_cmp, Some, ◌+◌}
+use Rattle.std.proofs.Common.{◌≡◌, ap, ap₂, ◌∙◌, subst, arith, cond, length, nat_cmp, None, Some, ◌+◌}
+use Rattle.croner_scheduler.proofs.Places.{no_job, none_from}
 use Rattle.croner_scheduler.proofs.TakenOut.{in_row, few, job_with, one_more, with_one, places_of}
 use Rattle.std.specs.BTreeMap.{is_at}
 use Rattle.std.specs.Map.{lookup}
@@ -22,6 +23,12 @@ invariant_of-self-2 g c =
     let self = c.self.inside in
     places_of (self.count + 1) (self.next_id + 1) c.push_reserved.ensures.items c.push_reserved-2.ensures.items
     (with_one self.ids.items self.places.items c.make_room.new.ids.items c.make_room.new.places.items c.make_room.ensures.kept self.count self.next_id c.self.invariant c.args.waiting)
+
+pub returns-clause-unused : goal.returns-clause-unused
+returns-clause-unused g c =
+    let self = c.self.inside in
+    subst (λ jobs. job_of jobs jobs.next_id ≡ None) c.self.view_is
+    (no_job self.next_id self.ids.items self.places.items (none_from self.ids.items self.next_id self.next_id c.self.invariant.below (omega arith)))
 
 pub returns-clause-jobs : goal.returns-clause-jobs
 returns-clause-jobs g c k =

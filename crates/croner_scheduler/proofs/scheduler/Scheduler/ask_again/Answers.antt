@@ -1,13 +1,20 @@
 use Rattle.std.proofs.Common.{rules, ◌≡◌, refl, sym, ap, ◌∙◌, subst, Some, IsSome, is_some, option_map, length}
+use Rattle.std.specs.BinaryHeap.{heap_items}
 use Rattle.croner_scheduler.specs.Ids.{job_of}
 use Rattle.croner_scheduler.specs.Calls.{MovesTo, AsksAgain, is_asked, AgainTellsStop}
 use Rattle.croner_scheduler.specs.Kept.{standing_of, stop_of, Fits}
 use Rattle.croner_scheduler.specs.Private.Steps.{job_with_next}
-use Rattle.croner_scheduler.specs.Private.Turns.{has_turn}
 use Rattle.croner_scheduler.specs.Standing.{Held}
 use Rattle.croner_scheduler.specs.Views.{held_of}
-use Rattle.croner_scheduler.proofs.Puts.{put_listed, put_fits, put_moved, put_tells, changed_puts, asked_by, tells_by, stands_whole, of_standing}
+use Rattle.croner_scheduler.proofs.Puts.{put_fits, put_moved, put_tells, changed_puts, asked_by, tells_by, stands_whole, of_standing}
+use Rattle.croner_scheduler.proofs.TurnHeap.{changed_listed}
 use Rattle.croner_scheduler.proofs.scheduler.Scheduler.ask_again.Goals as goal
+
+pub await_next-requires-clause-listed : goal.await_next-requires-clause-listed
+await_next-requires-clause-listed g c =
+    let self = c.args.self.now in
+    changed_listed (λ k. job_of self.jobs k) (λ k. job_of c.renew.new.self k) (heap_items c.make_room.new.turns) c.make_room.ensures.turns.1 c.args.id
+    c.in_ok-next.next (job_with_next c.in_ok-next.next) (λ w. refl) c.renew.ensures.jobs
 
 pub invariant_of-self-2 : goal.invariant_of-self-2
 invariant_of-self-2 g c =
@@ -21,10 +28,9 @@ invariant_of-self-2 g c =
     } in
     let puts = changed_puts c.args.id (λ k. job_of self.jobs k) (λ k. job_of c.renew.new.self k) w there (job_with_next c.in_ok-next.next) c.renew.ensures.jobs in
     record {
-      listed = put_listed g.J.Recurring.runs g.T.CronDateTime.moment c.args.id (λ k. job_of self.jobs k) (λ k. job_of c.renew.new.self k) (has_turn self.turns)
-          self.listed self.fits w there other fit puts (has_turn c.change_turn.new.turns) c.in_ok-change_turn.ensures.changed;
-      fits = put_fits g.J.Recurring.runs g.T.CronDateTime.moment c.args.id (λ k. job_of self.jobs k) (λ k. job_of c.renew.new.self k) (has_turn self.turns)
-          self.listed self.fits w there other fit puts;
+      turns_of = c.await_next.ensures;
+      fits = put_fits g.J.Recurring.runs g.T.CronDateTime.moment c.args.id (λ k. job_of self.jobs k) (λ k. job_of c.renew.new.self k)
+          self.fits w there other fit puts;
     }
 
 pub returns-clause-asked : goal.returns-clause-asked
@@ -41,12 +47,12 @@ returns-clause-asked g c =
     let puts = changed_puts c.args.id (λ k. job_of self.jobs k) (λ k. job_of c.renew.new.self k) w there (job_with_next c.in_ok-next.next) c.renew.ensures.jobs in
     let held = held_of g.T.CronDateTime.moment self in
     let held' : Held _ = record { jobs = λ k. option_map (standing_of g.T.CronDateTime.moment) (job_of c.renew.new.self k); count = length c.renew.new.self.entries; next_id = c.renew.new.self.next_id } in
-    subst (AsksAgain c.args.id held held') (sym (ap is_asked c.again_result-again.ensures ∙ asked_by (is_some (stop_of c.in_ok-next.next))))
+    subst (AsksAgain c.args.id held held') (sym (ap is_asked c.again_result.ensures ∙ asked_by (is_some (stop_of c.in_ok-next.next))))
     (of_standing g.T.CronDateTime.moment (λ s. IsSome s.stop × MovesTo held c.args.id s.position.instant held')
     (job_of self.jobs c.args.id) w there (
       stopped,
-      put_moved g.J.Recurring.runs g.T.CronDateTime.moment c.args.id (λ k. job_of self.jobs k) (λ k. job_of c.renew.new.self k) (has_turn self.turns)
-          self.listed self.fits w there other fit puts
+      put_moved g.J.Recurring.runs g.T.CronDateTime.moment c.args.id (λ k. job_of self.jobs k) (λ k. job_of c.renew.new.self k)
+          self.fits w there other fit puts
           held held' (λ k. refl) (λ k. refl) c.renew.ensures.count c.renew.ensures.next_id refl refl,
     ))
 
@@ -63,7 +69,7 @@ returns-clause-told g c =
     let puts = changed_puts c.args.id (λ k. job_of self.jobs k) (λ k. job_of c.renew.new.self k) w there (job_with_next c.in_ok-next.next) c.renew.ensures.jobs in
     let held = held_of g.T.CronDateTime.moment self in
     let held' : Held _ = record { jobs = λ k. option_map (standing_of g.T.CronDateTime.moment) (job_of c.renew.new.self k); count = length c.renew.new.self.entries; next_id = c.renew.new.self.next_id } in
-    subst (AgainTellsStop c.args.id held') (sym c.again_result-again.ensures)
+    subst (AgainTellsStop c.args.id held') (sym c.again_result.ensures)
     (tells_by held' c.args.id (is_some (stop_of c.in_ok-next.next))
-    (put_tells g.J.Recurring.runs g.T.CronDateTime.moment c.args.id (λ k. job_of self.jobs k) (λ k. job_of c.renew.new.self k) (has_turn self.turns)
-    self.listed self.fits w there other fit puts held held' (λ k. refl) (λ k. refl) c.renew.ensures.count c.renew.ensures.next_id))
+    (put_tells g.J.Recurring.runs g.T.CronDateTime.moment c.args.id (λ k. job_of self.jobs k) (λ k. job_of c.renew.new.self k)
+    self.fits w there other fit puts held held' (λ k. refl) (λ k. refl) c.renew.ensures.count c.renew.ensures.next_id))
