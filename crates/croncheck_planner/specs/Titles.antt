@@ -40,7 +40,7 @@ is_of_field b = is_digit b || (b == 42 || (b == 44 || (b == 45 || b == 47)))
 abbrev pub is_field : List ℕ → Bool
 is_field word = list_all is_of_field word && (is_star word || list_any is_digit word)
 
--- a text begins with the minutes of a job, or with a nickname: it may be a job that was taken out, whose command may hold a password
+-- a text begins with the minutes of a job, or with the sign of a nickname: it may be a job that was taken out, whose command may hold a password
 abbrev pub begins_as_job : List ℕ → Bool
 begins_as_job text = is_at text || is_field (front kinds.Word text)
 

@@ -48,7 +48,7 @@ fn title_text(text: &[u8]) -> &[u8]
     if begins_as_job(text) { &[] } else { text }
 }
 
-// Whether a text begins with a nickname or with the minutes of a job.
+// Whether a text begins with the sign of a nickname, or with the minutes of a job.
 fn begins_as_job(text: &[u8]) -> bool
     ensures { result ≡ begins_as_job text.now }
 {
