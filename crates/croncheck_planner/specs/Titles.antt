@@ -1,8 +1,8 @@
 -- What jobs are called in a plan. Source: docs/CRONTAB.md ("A plan").
-use Rattle.std.specs.Prelude.{ℕ, ◌==◌, ◌-◌, ◌&&◌, ◌||◌, Bool, true, false, not, nat_le, List, [], ◌∷◌, length, drop, Option, Some, None, if◌then◌else◌}
+use Rattle.std.specs.Prelude.{ℕ, ◌==◌, ◌-◌, ◌&&◌, ◌||◌, Bool, true, false, not, List, [], ◌∷◌, length, drop, Option, Some, None, if◌then◌else◌}
 use Rattle.std.specs.List.{list_all, list_any, prefix_len, suffix_len}
 use Rattle.crontab.specs.declared.bytes.Kind.TheVariants as kinds
-use Rattle.crontab.specs.Bytes.{front, text_after, trim_end}
+use Rattle.crontab.specs.Bytes.{front, is_digit, text_after, trim_end}
 use Rattle.crontab.specs.Line.{Line, Task, blank, comment, setting, job, pattern, refused}
 use Rattle.croncheck_report.specs.Allowed.{list_in}
 
@@ -28,9 +28,6 @@ without_hashes text = drop (prefix_len is_hash text) text
 -- the text of a comment: without the hashes in front, and the blanks around it
 abbrev pub comment_text : List ℕ → List ℕ
 comment_text line = trim_end (text_after kinds.Blank (without_hashes (text_after kinds.Blank line)))
-
-abbrev pub is_digit : ℕ → Bool
-is_digit b = nat_le 48 b && nat_le b 57
 
 -- a digit, or one of `*`, `,`, `-` and `/`
 abbrev pub is_of_field : ℕ → Bool

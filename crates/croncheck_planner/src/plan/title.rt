@@ -1,11 +1,12 @@
 //! What a job is called in a plan.
 ghost use Rattle.std.specs.Prelude.{◌≡◌, ◌≤◌, length, option_map, IfOk};
 ghost use Rattle.std.specs.List.{list_all, list_any, prefix_len, suffix_len};
+ghost use Rattle.crontab.specs.Bytes.{is_digit};
 ghost use Rattle.crontab.specs.Entries.{entry_seen, job_seen};
-ghost use Rattle.croncheck_planner.specs.Titles.{is_hash, is_no_slash, is_digit, is_of_field, is_star, is_at, is_field, begins_as_job, title_text, without_hashes, comment_text, heading, heading_of_comment, is_equals, last_part, title_of_word, title_of_command, title_of_job, title_of};
+ghost use Rattle.croncheck_planner.specs.Titles.{is_hash, is_no_slash, is_of_field, is_star, is_at, is_field, begins_as_job, title_text, without_hashes, comment_text, heading, heading_of_comment, is_equals, last_part, title_of_word, title_of_command, title_of_job, title_of};
 
 use croncheck_report::allowed::comment::list_in;
-use crontab::bytes::{Kind, cut, trim_end};
+use crontab::bytes::{Kind, cut, is_digit, trim_end};
 use crontab::line::{Entry, Job, word};
 use std::alloc::{AllocError, Global};
 
@@ -96,12 +97,6 @@ fn is_of_field(byte: u8) -> bool
     ensures { result ≡ is_of_field byte }
 {
     is_digit(byte) || byte == b'*' || byte == b',' || byte == b'-' || byte == b'/'
-}
-
-fn is_digit(byte: u8) -> bool
-    ensures { result ≡ is_digit byte }
-{
-    b'0' <= byte && byte <= b'9'
 }
 
 // The text of a comment: without the hashes in front, and the blanks around it.
