@@ -18,7 +18,7 @@ use Rattle.croner.specs.Views.{job_of}
 use Rattle.crontab.specs.declared.bytes.Kind.TheVariants as kinds
 use Rattle.crontab.specs.declared.field.Names.TheVariants as names
 use Rattle.crontab.specs.declared.field.FieldBounds.{FieldBounds}
-use Rattle.crontab.specs.declared.field.Part.{Part}
+use Rattle.crontab.specs.declared.field.SteppedRange.{SteppedRange}
 use Rattle.croncheck_warnings.specs.declared.warnings.OtherWarning.{OtherWarning}
 use Rattle.croncheck_warnings.specs.declared.warnings.OtherWarning.TheVariants as others
 use Rattle.crontab.specs.Bytes.{front, text_after, begins_with}
@@ -71,7 +71,7 @@ text_of_field fields.Weekday t = t.days_of_week
 text_of_field fields.Year t = t.years
 
 -- the parts of a field as cron(8) reads them. A field that only a pattern can have (`L`, `5,,10`) has none
-abbrev pub parts_in : PatternField → Texts → List Part
+abbrev pub parts_in : PatternField → Texts → List SteppedRange
 parts_in field t = unwrap_or (parts_of (bounds_of_field field) (text_of_field field t)) []
 
 -- how many values there are up to where a field of a time begins anew; 0 for the fields of a date
@@ -87,7 +87,7 @@ is_long_step fields.Hours step = true
 is_long_step other step = nat_lt 15 step
 
 -- the first part of a field has one
-abbrev pub has_long_step : PatternField → List Part → Bool
+abbrev pub has_long_step : PatternField → List SteppedRange → Bool
 has_long_step field [] = false
 has_long_step field (part ∷ more) = is_long_step field part.step
 
@@ -97,7 +97,7 @@ abbrev pub has_uneven_step : PatternField → Texts → Bool
 has_uneven_step field t = is_uneven (turn_of field) (parts_in field t) && has_long_step field (parts_in field t)
 
 -- a range names its first value alone, since the second is past its end
-abbrev pub is_beyond : Part → Bool
+abbrev pub is_beyond : SteppedRange → Bool
 is_beyond part = nat_lt 1 part.step && (nat_le part.first part.last && nat_lt (part.last - part.first) part.step)
 
 -- `step-beyond`: a step of the field leads past the end of its range
@@ -105,7 +105,7 @@ abbrev pub has_step_beyond : PatternField → Texts → Bool
 has_step_beyond field t = list_any is_beyond (parts_in field t)
 
 -- several values in a row, as one range without a step
-abbrev pub is_one_range : List Part → Bool
+abbrev pub is_one_range : List SteppedRange → Bool
 is_one_range [] = false
 is_one_range (part ∷ []) = not part.is_star && (part.step == 1 && nat_lt part.first part.last)
 is_one_range (part ∷ other ∷ more) = false

@@ -3,7 +3,7 @@ use Rattle.std.proofs.Common.{◌≡◌, ◌<◌, ◌≤◌, ◌+◌, ◌∙◌,
 use Rattle.std.proofs.lemmas.List.{at_drop_more, at_drop_all}
 use Rattle.std.proofs.lemmas.List.Splits.{length-slice_split}
 use Rattle.std.specs.List.{slice_split, onto_first}
-use Rattle.crontab.specs.declared.field.Part.{Part}
+use Rattle.crontab.specs.declared.field.SteppedRange.{SteppedRange}
 use Rattle.crontab.specs.declared.field.FieldBounds.{FieldBounds}
 use Rattle.crontab.specs.Bytes.{begins_with}
 use Rattle.crontab.specs.Field.{part_of}
@@ -52,10 +52,10 @@ goes_first bounds field = record {
 }
 
 -- what the next piece comes to
-abbrev at_piece : ℕ → ℕ → Option (Part × List ℕ) → Option (ℕ × ℕ) → Option (ℕ × ℕ)
+abbrev at_piece : ℕ → ℕ → Option (SteppedRange × List ℕ) → Option (ℕ × ℕ) → Option (ℕ × ℕ)
 at_piece start long found more = option_map (λ p. (start + p.0, start + p.1)) (first_refused long found more)
 
-module _ (bounds : FieldBounds) (pieces : List (List ℕ)) (n : ℕ) (piece : List ℕ) (whole : Option (ℕ × ℕ)) (all start : ℕ) (found : Option (Part × List ℕ))
+module _ (bounds : FieldBounds) (pieces : List (List ℕ)) (n : ℕ) (piece : List ℕ) (whole : Option (ℕ × ℕ)) (all start : ℕ) (found : Option (SteppedRange × List ℕ))
     (within : n < length pieces) (is : piece ≡ get_or pieces n piece) (read : part_of bounds piece ≡ found) (h : Goes whole all start bounds (drop n pieces)) where
   goes_piece : whole ≡ at_piece start (length piece) found (refused_of_pieces bounds (drop (n + 1) pieces))
   goes_piece =
@@ -79,7 +79,7 @@ of_tail long ends none more = if ends then Some (0, long) else (if none then opt
 abbrev shifted : ℕ → Option (ℕ × ℕ) → Option (ℕ × ℕ)
 shifted start o = option_map (λ p. (start + p.0, start + p.1)) o
 
-tailed : (start long : ℕ) (part : Part) (tail : List ℕ) (more : Option (ℕ × ℕ)) (ends none : Bool) → begins_with 255 tail ≡ ends → (length tail == 0) ≡ none
+tailed : (start long : ℕ) (part : SteppedRange) (tail : List ℕ) (more : Option (ℕ × ℕ)) (ends none : Bool) → begins_with 255 tail ≡ ends → (length tail == 0) ≡ none
     → at_piece start long (Some (part, tail)) more ≡ shifted start (of_tail long ends none more)
 tailed start long part tail more ends none e f =
     ap (λ b. shifted start (of_tail long b (length tail == 0) more)) e ∙ ap (λ b. shifted start (of_tail long ends b more)) f
@@ -106,18 +106,18 @@ module _ (bounds : FieldBounds) (pieces : List (List ℕ)) (n : ℕ) (piece : Li
   refused_whole read = sym (goes_piece bounds pieces n piece whole all start None within is read h ∙ here start (length piece))
 
   -- the byte 255 follows its part
-  pub refused_ended : (part : Part) (tail : List ℕ) → part_of bounds piece ≡ Some (part, tail) → begins_with 255 tail ≡ true → some_pair start (start + length piece) ≡ whole
+  pub refused_ended : (part : SteppedRange) (tail : List ℕ) → part_of bounds piece ≡ Some (part, tail) → begins_with 255 tail ≡ true → some_pair start (start + length piece) ≡ whole
   refused_ended part tail read ends =
       sym (goes_piece bounds pieces n piece whole all start (Some (part, tail)) within is read h
       ∙ tailed start (length piece) part tail more true (length tail == 0) ends refl ∙ here start (length piece))
 
   -- the field ends after its part
-  pub refused_none : (part : Part) (tail : List ℕ) → part_of bounds piece ≡ Some (part, tail) → begins_with 255 tail ≡ false → (length tail == 0) ≡ false → None ≡ whole
+  pub refused_none : (part : SteppedRange) (tail : List ℕ) → part_of bounds piece ≡ Some (part, tail) → begins_with 255 tail ≡ false → (length tail == 0) ≡ false → None ≡ whole
   refused_none part tail read goes_on some =
       sym (goes_piece bounds pieces n piece whole all start (Some (part, tail)) within is read h ∙ tailed start (length piece) part tail more false false goes_on some)
 
   -- a comma follows its part
-  pub goes_next : (part : Part) (tail : List ℕ) → part_of bounds piece ≡ Some (part, tail) → begins_with 255 tail ≡ false → (length tail == 0) ≡ true
+  pub goes_next : (part : SteppedRange) (tail : List ℕ) → part_of bounds piece ≡ Some (part, tail) → begins_with 255 tail ≡ false → (length tail == 0) ≡ true
       → Goes whole all (start + length piece + 1) bounds (drop (n + 1) pieces)
   goes_next part tail read goes_on none = record {
     is =

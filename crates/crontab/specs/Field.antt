@@ -9,7 +9,7 @@ use Rattle.crontab.specs.declared.bytes.Kind.TheVariants as kinds
 use Rattle.crontab.specs.declared.field.Names.{Names}
 use Rattle.crontab.specs.declared.field.Names.TheVariants as names
 use Rattle.crontab.specs.declared.field.FieldBounds.{FieldBounds}
-use Rattle.crontab.specs.declared.field.Part.{Part}
+use Rattle.crontab.specs.declared.field.SteppedRange.{SteppedRange}
 use Rattle.crontab.specs.Bytes.{is_digit, front, text_after, begins_with, rest_of}
 
 -- ---- numbers
@@ -71,20 +71,20 @@ abbrev pub is_step : ℕ → ℕ → ℕ → Bool
 is_step first last step = nat_lt 0 step && (nat_lt step (2 ^ 31) && (nat_lt last first || nat_lt (first + step) (2 ^ 31)))
 
 -- a part whose bounds lie within the field's; a range that runs down names nothing
-abbrev pub part_in_bounds : FieldBounds → Bool → ℕ → ℕ → ℕ → List ℕ → Option (Part × List ℕ)
+abbrev pub part_in_bounds : FieldBounds → Bool → ℕ → ℕ → ℕ → List ℕ → Option (SteppedRange × List ℕ)
 part_in_bounds bounds star first last step rest =
     if is_within bounds first && (is_within bounds last && is_step first last step)
     then Some (record { is_star = star; first = first; last = last; step = step }, rest) else None
 
 -- a star or a range, and the step after it
-abbrev pub part_with_step : FieldBounds → Bool → ℕ → ℕ → List ℕ → Option (Part × List ℕ)
+abbrev pub part_with_step : FieldBounds → Bool → ℕ → ℕ → List ℕ → Option (SteppedRange × List ℕ)
 part_with_step bounds star first last rest =
     if begins_with 47 rest
     then option_and_then (λ s. part_in_bounds bounds star first last s.0 s.1) (value_at names.None (rest_of rest))
     else part_in_bounds bounds star first last 1 rest
 
 -- what follows a value: a dash and the value at the other end, no slash, or nothing of the part
-abbrev pub part_from_value : FieldBounds → ℕ → List ℕ → Option (Part × List ℕ)
+abbrev pub part_from_value : FieldBounds → ℕ → List ℕ → Option (SteppedRange × List ℕ)
 part_from_value bounds first rest =
     if begins_with 45 rest
     then option_and_then (λ v. part_with_step bounds false first v.0 v.1) (value_at bounds.names (rest_of rest))
@@ -92,7 +92,7 @@ part_from_value bounds first rest =
     else part_in_bounds bounds false first first 1 rest
 
 -- the part that a text begins with, and what follows it
-abbrev pub part_of : FieldBounds → List ℕ → Option (Part × List ℕ)
+abbrev pub part_of : FieldBounds → List ℕ → Option (SteppedRange × List ℕ)
 part_of bounds text =
     if begins_with 42 text then part_with_step bounds true bounds.first bounds.last (rest_of text)
     else option_and_then (λ v. part_from_value bounds v.0 v.1) (value_at bounds.names text)

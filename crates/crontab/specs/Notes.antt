@@ -8,7 +8,7 @@ use Rattle.std.specs.Str.{bytes_eq}
 use Rattle.crontab.specs.declared.bytes.Kind.{Kind}
 use Rattle.crontab.specs.declared.bytes.Kind.TheVariants as kinds
 use Rattle.crontab.specs.declared.field.Names.TheVariants as names
-use Rattle.crontab.specs.declared.field.Part.{Part}
+use Rattle.crontab.specs.declared.field.SteppedRange.{SteppedRange}
 use Rattle.crontab.specs.declared.field.FieldBounds.{FieldBounds}
 use Rattle.crontab.specs.declared.line.Fault.{Fault}
 use Rattle.crontab.specs.declared.line.Fault.TheVariants as faults
@@ -38,7 +38,7 @@ note_name notes.Seconds = codes "seconds"
 -- ---- signs in a field: of a piece between its commas, or of a word of letters and digits
 
 -- cron passes over bytes after this part
-abbrev pub is_followed : Option (Part × List ℕ) → Bool
+abbrev pub is_followed : Option (SteppedRange × List ℕ) → Bool
 is_followed None = false
 is_followed (Some read) = nat_lt 0 (length read.1)
 
@@ -111,10 +111,10 @@ has_other_name bounds field = any_run signs.OtherName bounds kinds.Alphanumeric 
 -- ---- what cron takes and reads otherwise
 
 -- a star that names all values of its field
-abbrev pub is_whole_star : Part → Bool
+abbrev pub is_whole_star : SteppedRange → Bool
 is_whole_star part = part.is_star && part.step == 1
 
-abbrev pub has_star_among : Option (List Part) → Bool
+abbrev pub has_star_among : Option (List SteppedRange) → Bool
 has_star_among None = false
 has_star_among (Some parts) = nat_lt 1 (length parts) && list_any is_whole_star parts
 

@@ -44,7 +44,7 @@ pub struct FieldBounds {
 /// A part of a field: the values from the first to the last, step by step. A part whose first is above its last
 /// names nothing.
 #[derive(Clone, Copy)]
-pub struct Part {
+pub struct SteppedRange {
     /// Whether it was written as a star.
     pub is_star: bool,
     /// The first value, within the bounds of its field.
@@ -193,7 +193,11 @@ fn is_step(first: u64, last: u64, step: u64) -> bool
         && (last < first || first.saturating_add(step) < POSITIVE_NUMBERS)
 }
 
-fn part_in_bounds(bounds: FieldBounds, part: Part, rest: &[u8]) -> Option<(Part, &[u8])>
+fn part_in_bounds(
+    bounds: FieldBounds,
+    part: SteppedRange,
+    rest: &[u8],
+) -> Option<(SteppedRange, &[u8])>
     ensures { option_map (λ p. (p.0, p.1.now)) result
         ≡ part_in_bounds bounds part.is_star part.first part.last part.step rest.now }
 {
@@ -214,13 +218,13 @@ fn part_with_step(
     first: u64,
     last: u64,
     rest: &[u8],
-) -> Option<(Part, &[u8])>
+) -> Option<(SteppedRange, &[u8])>
     ensures { option_map (λ p. (p.0, p.1.now)) result ≡ part_with_step bounds is_star first last rest.now }
 {
     if !begins_with(rest, b'/') {
         return part_in_bounds(
             bounds,
-            Part {
+            SteppedRange {
                 is_star,
                 first,
                 last,
@@ -232,7 +236,7 @@ fn part_with_step(
     match value_at(Names::None, rest_of(rest)) {
         Some((step, after)) => part_in_bounds(
             bounds,
-            Part {
+            SteppedRange {
                 is_star,
                 first,
                 last,
@@ -245,7 +249,7 @@ fn part_with_step(
 }
 
 // What follows a value.
-fn part_from_value(bounds: FieldBounds, first: u64, rest: &[u8]) -> Option<(Part, &[u8])>
+fn part_from_value(bounds: FieldBounds, first: u64, rest: &[u8]) -> Option<(SteppedRange, &[u8])>
     ensures { option_map (λ p. (p.0, p.1.now)) result ≡ part_from_value bounds first rest.now }
 {
     if begins_with(rest, b'-') {
@@ -259,7 +263,7 @@ fn part_from_value(bounds: FieldBounds, first: u64, rest: &[u8]) -> Option<(Part
     }
     part_in_bounds(
         bounds,
-        Part {
+        SteppedRange {
             is_star: false,
             first,
             last: first,
@@ -271,7 +275,7 @@ fn part_from_value(bounds: FieldBounds, first: u64, rest: &[u8]) -> Option<(Part
 
 /// The part that a text begins with, and what follows it. `None` where it begins with no part, where the part's
 /// first or last value isn't within the bounds of the field, and where its step is 0 or too large for cron.
-pub fn part_of(bounds: FieldBounds, text: &[u8]) -> Option<(Part, &[u8])>
+pub fn part_of(bounds: FieldBounds, text: &[u8]) -> Option<(SteppedRange, &[u8])>
     ensures { option_map (λ p. (p.0, p.1.now)) result ≡ part_of bounds text.now }
 {
     if begins_with(text, b'*') {

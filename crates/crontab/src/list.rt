@@ -3,7 +3,7 @@ ghost use Rattle.std.specs.Prelude.{◌≡◌, ◌≤◌, length, fold, option_m
 ghost use Rattle.crontab.specs.List.{parts_of, refused_in, names_nothing, is_uneven, step_text, range_text, added, first_text, text_of, field_text};
 
 use crate::bytes::begins_with;
-use crate::field::{FieldBounds, Part, part_of};
+use crate::field::{FieldBounds, SteppedRange, part_of};
 use std::alloc::{AllocError, Global};
 
 /// The byte that cron takes for the end of the file, where it follows a part.
@@ -20,7 +20,7 @@ pub fn parts_of(
     alloc: Global,
     bounds: FieldBounds,
     field: &[u8],
-) -> Result<Option<Vec<Part>>, AllocError>
+) -> Result<Option<Vec<SteppedRange>>, AllocError>
     ensures { IfOk result (λ found. option_map (λ parts. parts.items) found ≡ parts_of bounds field.now) }
 {
     let mut parts = Vec::new(alloc);
@@ -64,14 +64,14 @@ pub(crate) fn refused_in(bounds: FieldBounds, field: &[u8]) -> Option<(usize, us
 }
 
 /// Whether a part names no value: its range runs down.
-pub fn names_nothing(part: &Part) -> bool
+pub fn names_nothing(part: &SteppedRange) -> bool
     ensures { result ≡ names_nothing part.now }
 {
     part.last < part.first
 }
 
 /// Whether a field is a single star whose step is below `turn` and doesn't divide it.
-pub fn is_uneven(turn: u64, parts: &[Part]) -> bool
+pub fn is_uneven(turn: u64, parts: &[SteppedRange]) -> bool
     ensures { result ≡ is_uneven turn parts.now }
 {
     match parts {
@@ -91,7 +91,7 @@ fn step_text(alloc: Global, step: u64) -> Result<String, AllocError>
     format!(in alloc; "/{told}")
 }
 
-fn range_text(alloc: Global, part: &Part) -> Result<String, AllocError>
+fn range_text(alloc: Global, part: &SteppedRange) -> Result<String, AllocError>
     ensures { IfOk result (λ text. string_bytes text ≡ range_text part.now) }
 {
     let (first, last) = (part.first, part.last);
@@ -102,7 +102,7 @@ fn range_text(alloc: Global, part: &Part) -> Result<String, AllocError>
     format!(in alloc; "{first}-{last}{step}")
 }
 
-fn add(alloc: Global, text: &mut String, part: &Part) -> Result<(), AllocError>
+fn add(alloc: Global, text: &mut String, part: &SteppedRange) -> Result<(), AllocError>
     ensures { OnOk result (string_bytes text.new ≡ added (string_bytes text.old) part.now) }
 {
     if names_nothing(part) {
@@ -115,7 +115,7 @@ fn add(alloc: Global, text: &mut String, part: &Part) -> Result<(), AllocError>
     text.push_str(range.as_str())
 }
 
-fn first_text(alloc: Global, part: &Part) -> Result<String, AllocError>
+fn first_text(alloc: Global, part: &SteppedRange) -> Result<String, AllocError>
     ensures { IfOk result (λ text. string_bytes text ≡ first_text part.now) }
 {
     if part.is_star {
@@ -127,7 +127,11 @@ fn first_text(alloc: Global, part: &Part) -> Result<String, AllocError>
     Ok(text)
 }
 
-fn all_text(alloc: Global, first: &Part, more: &[Part]) -> Result<String, AllocError>
+fn all_text(
+    alloc: Global,
+    first: &SteppedRange,
+    more: &[SteppedRange],
+) -> Result<String, AllocError>
     ensures { IfOk result (λ text. string_bytes text ≡ fold added (first_text first.now) more.now) }
 {
     let mut text = first_text(alloc, first)?;
@@ -137,7 +141,7 @@ fn all_text(alloc: Global, first: &Part, more: &[Part]) -> Result<String, AllocE
     Ok(text)
 }
 
-fn text_of(alloc: Global, parts: &[Part]) -> Result<String, AllocError>
+fn text_of(alloc: Global, parts: &[SteppedRange]) -> Result<String, AllocError>
     ensures { IfOk result (λ text. string_bytes text ≡ text_of parts.now) }
 {
     match parts {

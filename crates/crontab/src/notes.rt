@@ -13,7 +13,9 @@ ghost use Rattle.crontab.specs.List.{parts_of};
 ghost use Rattle.crontab.specs.Notes.{is_followed, is_large, is_named, reads, is_numbered, is_named_last, is_last_weekday, is_weekday_word, passes, any_run, is_weekday_byte, looks_like_weekdays, has_other_name, has_passed_over, has_large_number, is_whole_star, is_star_among, any_star_among, has_uneven_step, any_uneven_step, is_star_day, are_words_noted, is_job_noted, field_at, has_modifier, is_fault_noted, takes, is_refused_field_noted, takes_day, takes_all, has_seconds, lowered, is_of_fields, is_of_nickname, is_refusal_noted, is_text_noted, note_name, notes_of};
 
 use crate::bytes::{Kind, begins_with, cut, is_digit, is_of, rest_of};
-use crate::field::{FieldBounds, Names, Part, all_digits, digits, is_name, name_of, part_of};
+use crate::field::{
+    FieldBounds, Names, SteppedRange, all_digits, digits, is_name, name_of, part_of,
+};
 use crate::line::{
     DAYS, Fault, FieldWords, HOURS, MINUTES, MONTHS, WEEKDAYS, are_both, word, words_of,
 };
@@ -257,13 +259,13 @@ pub fn has_other_name(bounds: FieldBounds, field: &[u8]) -> bool
 
 // ---- what cron takes and reads otherwise
 
-fn is_whole_star(part: &Part) -> bool
+fn is_whole_star(part: &SteppedRange) -> bool
     ensures { result ≡ is_whole_star part.now }
 {
     part.is_star && part.step == 1
 }
 
-fn any_whole_star(parts: &[Part]) -> bool
+fn any_whole_star(parts: &[SteppedRange]) -> bool
     ensures { result ≡ list_any is_whole_star parts.now }
 {
     parts.iter().any(|part| is_whole_star(part))

@@ -11,7 +11,7 @@ use super::hidden::has_hidden_within;
 use croner::errors::CronError;
 use croner::parser::PatternField;
 use crontab::bytes::begins_with;
-use crontab::field::{FieldBounds, Names, Part};
+use crontab::field::{FieldBounds, Names, SteppedRange};
 use crontab::line::word;
 use crontab::list::{is_uneven, names_nothing, parts_of};
 use crontab::notes;
@@ -165,7 +165,7 @@ fn is_long_step(field: PatternField, step: u64) -> bool
 }
 
 // Whether a field's first part has a step that is long for it.
-fn has_long_step(field: PatternField, parts: &[Part]) -> bool
+fn has_long_step(field: PatternField, parts: &[SteppedRange]) -> bool
     ensures { result ≡ has_long_step field parts.now }
 {
     match parts {
@@ -175,20 +175,20 @@ fn has_long_step(field: PatternField, parts: &[Part]) -> bool
 }
 
 // Whether a range names its first value alone, since the next one is past its end.
-fn is_beyond(part: &Part) -> bool
+fn is_beyond(part: &SteppedRange) -> bool
     ensures { result ≡ is_beyond part.now }
 {
     1 < part.step && part.first <= part.last && part.last - part.first < part.step
 }
 
-fn any_beyond(parts: &[Part]) -> bool
+fn any_beyond(parts: &[SteppedRange]) -> bool
     ensures { result ≡ list_any is_beyond parts.now }
 {
     parts.iter().any(|part| is_beyond(part))
 }
 
 // Whether a field is several values in a row, as one range without a step.
-fn is_one_range(parts: &[Part]) -> bool
+fn is_one_range(parts: &[SteppedRange]) -> bool
     ensures { result ≡ is_one_range parts.now }
 {
     match parts {
@@ -197,7 +197,7 @@ fn is_one_range(parts: &[Part]) -> bool
     }
 }
 
-fn any_down(parts: &[Part]) -> bool
+fn any_down(parts: &[SteppedRange]) -> bool
     ensures { result ≡ list_any names_nothing parts.now }
 {
     parts.iter().any(|part| names_nothing(part))
@@ -231,7 +231,7 @@ impl<'l> Fields<'l> {
     }
 
     // The parts of a field as cron reads them: none where it wouldn't take the field.
-    fn parts_in(&self, alloc: Global, field: PatternField) -> Result<Vec<Part>, AllocError>
+    fn parts_in(&self, alloc: Global, field: PatternField) -> Result<Vec<SteppedRange>, AllocError>
         ensures { IfOk result (λ parts. parts.items ≡ parts_in field (fields_seen self.now)) }
     {
         match parts_of(alloc, bounds_of_field(field), self.text_of(field))? {

@@ -43,7 +43,7 @@ impl Rules {
     }
 
     /// A number of the field was expected in place of a part of it.
-    fn number_for(self, part: Part<'_>) -> Expected {
+    fn number_for(self, part: Segment<'_>) -> Expected {
         let mut rules = self;
         if self.hint == Hint::None && self.field == PatternField::Hours && part.read == "24" {
             rules.hint = Hint::Sign(SignHint::Midnight);
@@ -105,9 +105,9 @@ impl Rules {
     }
 }
 
-/// A piece of a part: as it is written, and as it is read.
+/// A segment of a part: as it is written, and as it is read.
 #[derive(Clone, Copy)]
-pub struct Part<'t> {
+pub struct Segment<'t> {
     pub written: Piece<'t>,
     pub read: &'t str,
 }
@@ -115,12 +115,12 @@ pub struct Part<'t> {
 /// What comes before a sign, the sign, and what follows it.
 #[derive(Clone, Copy)]
 struct Sides<'t> {
-    left: Part<'t>,
+    left: Segment<'t>,
     sign: Piece<'t>,
-    right: Part<'t>,
+    right: Segment<'t>,
 }
 
-impl<'t> Part<'t> {
+impl<'t> Segment<'t> {
     /// The two sides of the first such sign. A sign is the same as written and as read.
     fn split(self, sign: char) -> Option<Sides<'t>> {
         let (left, right) = self.read.split_once(sign)?;
@@ -128,7 +128,7 @@ impl<'t> Part<'t> {
         let start = self.written.start.saturating_add(at);
         let sign_text = self.written.text.get(at..at.saturating_add(1))?;
         Some(Sides {
-            left: Part {
+            left: Segment {
                 written: Piece {
                     text: self.written.text.get(..at)?,
                     start: self.written.start,
@@ -139,7 +139,7 @@ impl<'t> Part<'t> {
                 text: sign_text,
                 start,
             },
-            right: Part {
+            right: Segment {
                 written: Piece {
                     text: self.written.text.get(at.saturating_add(1)..)?,
                     start: start.saturating_add(1),
@@ -159,7 +159,7 @@ impl<'t> Part<'t> {
 }
 
 /// The place of the fault of a refused part, and what was expected there.
-pub fn fault_of_part(part: Part<'_>, rules: Rules) -> (Piece<'_>, Expected) {
+pub fn fault_of_part(part: Segment<'_>, rules: Rules) -> (Piece<'_>, Expected) {
     let head = head_of(part);
     let found = if part.read == "*" {
         Some((part.written, Expected::Star(expected_of_star(part))))
@@ -179,7 +179,7 @@ pub fn fault_of_part(part: Part<'_>, rules: Rules) -> (Piece<'_>, Expected) {
 }
 
 /// What was expected of a `*`, or a `?` for it, with something beside it: that it be alone.
-fn expected_of_star(part: Part<'_>) -> ExpectedStar {
+fn expected_of_star(part: Segment<'_>) -> ExpectedStar {
     if part.written.text == "?" {
         return ExpectedStar::QuestionAlone;
     }
@@ -192,7 +192,7 @@ fn one_sign(sign: char) -> Expected {
 }
 
 /// The part before its first `#`.
-fn head_of(part: Part<'_>) -> Part<'_> {
+fn head_of(part: Segment<'_>) -> Segment<'_> {
     match part.split('#') {
         Some(sides) => sides.left,
         None => part,
@@ -200,7 +200,7 @@ fn head_of(part: Part<'_>) -> Part<'_> {
 }
 
 /// The text after a `#`, if it is neither `L` nor a number from 1 to 5.
-fn fault_of_nth(part: Part<'_>) -> Option<(Piece<'_>, Expected)> {
+fn fault_of_nth(part: Segment<'_>) -> Option<(Piece<'_>, Expected)> {
     let sides = part.split('#')?;
     if part.read.ends_with('L') {
         return None;
@@ -217,7 +217,7 @@ fn fault_of_nth(part: Part<'_>) -> Option<(Piece<'_>, Expected)> {
 
 /// A number of the field beside a sign: what is wrong with it.
 fn fault_of_side<'t>(
-    side: Part<'t>,
+    side: Segment<'t>,
     sign: Piece<'t>,
     after: bool,
     rules: Rules,
@@ -229,7 +229,7 @@ fn fault_of_side<'t>(
 }
 
 /// What is wrong with a text that should be one value of the field.
-fn fault_of_value<'t>(value: Part<'t>, rules: Rules) -> Option<(Piece<'t>, Expected)> {
+fn fault_of_value<'t>(value: Segment<'t>, rules: Rules) -> Option<(Piece<'t>, Expected)> {
     if let Some(number) = value.number() {
         if rules.has(number) {
             return None;
@@ -246,7 +246,7 @@ fn fault_of_value<'t>(value: Part<'t>, rules: Rules) -> Option<(Piece<'t>, Expec
 }
 
 /// The place of an `L` or a `W`, if there is one in what should be a number.
-fn fault_of_modifier(value: Part<'_>, rules: Rules) -> Option<ExpectedDay> {
+fn fault_of_modifier(value: Segment<'_>, rules: Rules) -> Option<ExpectedDay> {
     let has_last = value.read.contains('L');
     if has_last && rules.field == PatternField::Weekday {
         return Some(ExpectedDay::LastAfterWeekday);
@@ -274,7 +274,7 @@ fn are_names(text: &str) -> bool {
 }
 
 fn fault_of_range<'t>(
-    part: Part<'t>,
+    part: Segment<'t>,
     sides: Sides<'t>,
     rules: Rules,
 ) -> Option<(Piece<'t>, Expected)> {
@@ -314,7 +314,7 @@ fn fault_of_range<'t>(
 }
 
 /// A range that went past the greatest value, as ranges that go up. Years don't start over.
-fn suggestion_of_range(left: Part<'_>, right: Part<'_>, rules: Rules) -> Suggestion {
+fn suggestion_of_range(left: Segment<'_>, right: Segment<'_>, rules: Rules) -> Suggestion {
     let (Some(first), Some(last)) = (left.number(), right.number()) else {
         return Suggestion::None;
     };
@@ -332,14 +332,14 @@ fn suggestion_of_range(left: Part<'_>, right: Part<'_>, rules: Rules) -> Suggest
     }
 }
 
-fn names_of(left: Part<'_>, right: Part<'_>, rules: Rules) -> ValueNames {
+fn names_of(left: Segment<'_>, right: Segment<'_>, rules: Rules) -> ValueNames {
     if !is_name(left) || !is_name(right) {
         return ValueNames::Numbers;
     }
     rules.names()
 }
 
-fn is_name(part: Part<'_>) -> bool {
+fn is_name(part: Segment<'_>) -> bool {
     part.written.text.len() == 3
         && part
             .written
@@ -350,7 +350,7 @@ fn is_name(part: Part<'_>) -> bool {
 }
 
 fn fault_of_step<'t>(
-    part: Part<'t>,
+    part: Segment<'t>,
     sides: Sides<'t>,
     rules: Rules,
 ) -> Option<(Piece<'t>, Expected)> {
@@ -392,7 +392,7 @@ fn fault_of_step<'t>(
 }
 
 /// What to write in place of a step that reaches no second value.
-fn expected_of_long_step(part: Part<'_>, left: Part<'_>, rules: Rules) -> ExpectedStep {
+fn expected_of_long_step(part: Segment<'_>, left: Segment<'_>, rules: Rules) -> ExpectedStep {
     if part.read.contains('#') {
         return ExpectedStep::Shorter;
     }
@@ -408,8 +408,8 @@ fn expected_of_long_step(part: Part<'_>, left: Part<'_>, rules: Rules) -> Expect
 
 /// What is wrong before a `/`, if that is no range.
 fn fault_of_start<'t>(
-    part: Part<'t>,
-    left: Part<'t>,
+    part: Segment<'t>,
+    left: Segment<'t>,
     step: u16,
     rules: Rules,
 ) -> Option<(Piece<'t>, Expected)> {
@@ -473,7 +473,7 @@ fn fault_of_nearest<'t>(sides: Sides<'t>, rules: Rules) -> Option<(Piece<'t>, Ex
 }
 
 /// What an `L` in the days may have been meant for.
-fn fault_of_last(part: Part<'_>) -> ExpectedDay {
+fn fault_of_last(part: Segment<'_>) -> ExpectedDay {
     match part.read.strip_suffix('L') {
         Some("0" | "1" | "2" | "3" | "4" | "5" | "6" | "7") => ExpectedDay::LastOfWeekday,
         _ => ExpectedDay::LastAlone,
@@ -481,8 +481,8 @@ fn fault_of_last(part: Part<'_>) -> ExpectedDay {
 }
 
 fn fault_of_number<'t>(
-    part: Part<'t>,
-    head: Part<'t>,
+    part: Segment<'t>,
+    head: Segment<'t>,
     rules: Rules,
 ) -> Option<(Piece<'t>, Expected)> {
     if rules.field == PatternField::DayOfMonth && part.read.contains('L') {

@@ -13,7 +13,7 @@ use super::fault::{
     Expected, ExpectedCharacter, ExpectedNickname, ExpectedStep, ExpectedText, FieldsHint, Hint,
     PatternField, SignHint, TextHint,
 };
-use super::part::{Part, Rules, fault_of_part};
+use super::part::{Rules, Segment, fault_of_part};
 use super::pieces::{Finding, Piece};
 use super::place::{counted_word, place_of_word};
 use super::prepare::{NAME_LENGTH, has_byte, name_at, replace_names};
@@ -644,7 +644,7 @@ fn refused_part(
         hint: hint_of(parser.year, field, words, place),
     };
     let read = as_read(alloc, written.text, rules.quartz)?;
-    let refused = Part {
+    let refused = Segment {
         written,
         read: read.as_str(),
     };
