@@ -97,7 +97,7 @@ def silence(plan):
 
 def left_out_lines(plan):
     jobs = [(plan.jobs[place], count) for place, count in plan.left_out]
-    found = [f"left out, since it starts too often: {job.label} {excerpt(shown(job.title))}, {many(count)}" for job, count in jobs]
+    found = [f"left out, since it starts too often (--most-a-day): {job.label} {excerpt(shown(job.title))}, {many(count)}" for job, count in jobs]
     return found + (["the plan ends after 100000 starts, before what was asked for"] if plan.is_cut else [])
 
 

@@ -171,7 +171,7 @@ unfoldable pub starts_line : ℕ → List ℕ
 starts_line starts = codes ", " ++ (starts_text starts ++ codes "\n")
 
 unfoldable pub left_out_line : List Job → Frequent → List ℕ
-left_out_line jobs job = codes "left out, since it starts too often: " ++ (job_name jobs job.job ++ starts_line job.starts)
+left_out_line jobs job = codes "left out, since it starts too often (--most-a-day): " ++ (job_name jobs job.job ++ starts_line job.starts)
 
 -- each of these as a line
 unfoldable pub left_out_lines : List Job → List Frequent → List ℕ

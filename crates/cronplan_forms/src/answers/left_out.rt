@@ -41,7 +41,7 @@ fn push_frequent(
 fn push_line(text: &mut String, jobs: &[Job<'_>], job: Frequent) -> Result<(), AllocError>
     ensures { OnOk result (string_bytes text.new ≡ string_bytes text.old ++ left_out_line jobs.now job) }
 {
-    text.push_str("left out, since it starts too often: ")?;
+    text.push_str("left out, since it starts too often (--most-a-day): ")?;
     push_job_name(text, jobs, job.job)?;
     push_starts(text, job.starts)
 }

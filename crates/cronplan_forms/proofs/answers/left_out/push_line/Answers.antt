@@ -8,7 +8,7 @@ pub returns : goal.returns
 unfolding left_out_line
 returns c =
     let begin : List ℕ = string_bytes c.args.text.now in
-    let head : List ℕ = codes "left out, since it starts too often: " in
+    let head : List ℕ = codes "left out, since it starts too often (--most-a-day): " in
     let name : List ℕ = job_name c.args.jobs.now c.args.job.job in
     let starts : List ℕ = starts_line c.args.job.starts in
     let with_name : string_bytes c.push_job_name.new.text ≡ (begin ++ head) ++ name = c.in_ok-push_job_name.ensures ∙ ap (λ (t : List ℕ). t ++ name) c.in_ok-push_str.ensures.bytes in
