@@ -78,7 +78,7 @@ def warnings_of(text, is_system):
 
 def title_of_comment(text):
     title = text.lstrip(b" \t").lstrip(b"#").strip(b" \t")
-    return b"" if begins_as_job(title) else title
+    return b"" if crontab_model.is_setting(title) or begins_as_job(title) else title
 
 
 def begins_as_job(text):

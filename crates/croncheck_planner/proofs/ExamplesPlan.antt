@@ -36,6 +36,17 @@ one_of_each_minute = refl
 one_by_a_nickname : heading comment (codes "## @daily sync --key hunter2") ≡ Some []
 one_by_a_nickname = refl
 
+-- and so may a setting
+a_setting_taken_out : heading comment (codes "# PGPASSWORD=hunter2") ≡ Some []
+a_setting_taken_out = refl
+
+a_setting_with_blanks : heading comment (codes "#MAILTO = ops") ≡ Some []
+a_setting_with_blanks = refl
+
+-- a name is one word
+an_equals_sign_in_words : heading comment (codes "# runs if x=y") ≡ Some (codes "runs if x=y")
+an_equals_sign_in_words = refl
+
 -- a word with a letter, and a line of dashes, are no minutes
 a_time_of_the_day : heading comment (codes "# 3am: nightly") ≡ Some (codes "3am: nightly")
 a_time_of_the_day = refl

@@ -4,6 +4,7 @@ use Rattle.std.specs.List.{list_all, list_any, prefix_len, suffix_len}
 use Rattle.crontab.specs.declared.bytes.Kind.TheVariants as kinds
 use Rattle.crontab.specs.Bytes.{front, is_digit, text_after, trim_end}
 use Rattle.crontab.specs.Line.{Line, Task, blank, comment, setting, job, pattern, refused}
+use Rattle.crontab.specs.Setting.{is_setting}
 use Rattle.croncheck_report.specs.Allowed.{list_in}
 
 -- ---- the comment above a job
@@ -37,13 +38,17 @@ is_of_field b = is_digit b || (b == 42 || (b == 44 || (b == 45 || b == 47)))
 abbrev pub is_field : List ℕ → Bool
 is_field word = list_all is_of_field word && (is_star word || list_any is_digit word)
 
--- a text begins with the minutes of a job, or with the sign of a nickname: it may be a job that was taken out, whose command may hold a password
+-- a text begins with the minutes of a job, or with the sign of a nickname
 abbrev pub begins_as_job : List ℕ → Bool
 begins_as_job text = is_at text || is_field (front kinds.Word text)
 
--- the text of a comment that doesn't begin as a job does
+-- a text reads as a setting, or begins as a job does: it may be a line that was taken out, which may hold a password
+abbrev pub reads_as_line : List ℕ → Bool
+reads_as_line text = is_setting text || begins_as_job text
+
+-- the text of a comment that doesn't read as a line
 abbrev pub title_text : List ℕ → List ℕ
-title_text text = if begins_as_job text then [] else text
+title_text text = if reads_as_line text then [] else text
 
 -- the title that a comment gives to the next line: one that allows something leaves what stands above it
 abbrev pub heading_unless : Option (List ℕ) → List ℕ → Option (List ℕ)

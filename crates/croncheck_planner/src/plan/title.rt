@@ -3,15 +3,16 @@ ghost use Rattle.std.specs.Prelude.{◌≡◌, ◌≤◌, length, option_map, If
 ghost use Rattle.std.specs.List.{list_all, list_any, prefix_len, suffix_len};
 ghost use Rattle.crontab.specs.Bytes.{is_digit};
 ghost use Rattle.crontab.specs.Entries.{entry_seen, job_seen};
-ghost use Rattle.croncheck_planner.specs.Titles.{is_hash, is_no_slash, is_of_field, is_star, is_at, is_field, begins_as_job, title_text, without_hashes, comment_text, heading, heading_of_comment, is_equals, last_part, title_of_word, title_of_command, title_of_job, title_of};
+ghost use Rattle.croncheck_planner.specs.Titles.{is_hash, is_no_slash, is_of_field, is_star, is_at, is_field, begins_as_job, reads_as_line, title_text, without_hashes, comment_text, heading, heading_of_comment, is_equals, last_part, title_of_word, title_of_command, title_of_job, title_of};
 
 use croncheck_report::allowed::comment::list_in;
 use crontab::bytes::{Kind, cut, is_digit, trim_end};
 use crontab::line::{Entry, Job, word};
+use crontab::setting::is_setting;
 use std::alloc::{AllocError, Global};
 
-/// The title that a line gives to the next one: the text of a comment, or an empty one if the line isn't a comment, or is one that begins
-/// as a job does. `None` for a comment that allows something: it leaves the title of the comment above it.
+/// The title that a line gives to the next one: the text of a comment, or an empty one if the line isn't a comment, or is one that reads as
+/// a setting or begins as a job does. `None` for a comment that allows something: it leaves the title of the comment above it.
 ///
 /// The only error is lack of memory.
 pub(crate) fn heading_of(
@@ -42,11 +43,18 @@ fn heading_of_comment(alloc: Global, line: &[u8]) -> Result<Option<Vec<u8>>, All
     Ok(Some(text))
 }
 
-// A text that doesn't begin as a job does; else nothing, since it may be a job that was taken out, whose command may hold a password.
+// A text that doesn't read as a line; else nothing, since it may be a line that was taken out, which may hold a password.
 fn title_text(text: &[u8]) -> &[u8]
     ensures { result.now ≡ title_text text.now }
 {
-    if begins_as_job(text) { &[] } else { text }
+    if reads_as_line(text) { &[] } else { text }
+}
+
+// Whether a text reads as a setting, or begins as a job does.
+fn reads_as_line(text: &[u8]) -> bool
+    ensures { result ≡ reads_as_line text.now }
+{
+    is_setting(text) || begins_as_job(text)
 }
 
 // Whether a text begins with the sign of a nickname, or with the minutes of a job.
