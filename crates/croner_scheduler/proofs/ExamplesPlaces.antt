@@ -12,7 +12,7 @@ unfolding places
 a_removed_job_is_none = refl
 
 two : ById ℕ
-two = record { entries = (3, 30) ∷ (7, 70) ∷ []; next_id = 8 }
+two = record { entries = (3, 30) ∷ (7, 70) ∷ []; next_id = 8; room = 0 }
 
 the_job_of_an_id : job_of two 7 ≡ Some 70
 unfolding two

@@ -1,6 +1,7 @@
 pub mod Ids
 pub mod Places
 pub mod TakenOut
+pub mod Rooms
 pub mod TurnOrder
 pub mod TurnHeap
 pub mod NextRuns

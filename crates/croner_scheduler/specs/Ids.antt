@@ -5,10 +5,11 @@ use Rattle.std.specs.Map.{lookup}
 use Rattle.std.specs.Ordering.{nat_cmp}
 use denote.Ref.{Bor}
 
--- jobs with their ids, in the order of the ids, and the id of the next one
+-- jobs with their ids, in the order of the ids; the id of the next one; and for how many more there is room
 pub record ById (W : Type 0) : Type 0 where
   pub entries : List (ℕ × W)
   pub next_id : ℕ
+  pub room : ℕ
 
 -- the job of an id
 abbrev pub job_of : {W : Type 0} → ById W → ℕ → Option W

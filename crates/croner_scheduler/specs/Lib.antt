@@ -1,6 +1,7 @@
 pub mod Standing
 pub mod Kept
 pub mod Ids
+pub mod Room
 pub mod Views
 pub mod Awaited
 pub mod Stops

@@ -1,8 +1,9 @@
 -- What contracts see of a scheduler and of a job in it.
-use Rattle.std.specs.Prelude.{length, option_map}
+use Rattle.std.specs.Prelude.{ℕ, ◌+◌, min, length, option_map}
 use Rattle.croner_base.specs.Zone.{Moment}
 use Rattle.croner_scheduler.specs.declared.scheduler.Scheduler.{Scheduler}
 use Rattle.croner_scheduler.specs.Ids.{job_of}
+use Rattle.croner_scheduler.specs.Room.{heap_room}
 use Rattle.croner_scheduler.specs.Standing.{Held}
 use Rattle.croner_scheduler.specs.Kept.{standing_of}
 
@@ -13,3 +14,7 @@ held_of moment s = record {
   count = length s.jobs.entries;
   next_id = s.jobs.next_id;
 }
+
+-- for how many jobs there is room: those that it holds, and as many more as have room both among the jobs and among the turns
+abbrev pub capacity_of : {J T : Type 0} {a : _} {b : _} {c : _} → Scheduler J T a b c → ℕ
+capacity_of s = length s.jobs.entries + min s.jobs.room (heap_room s.turns)

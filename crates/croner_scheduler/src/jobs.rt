@@ -1,5 +1,5 @@
 //! The jobs by their ids.
-ghost use Rattle.std.specs.Prelude.{◌≡◌, ◌≤◌, ◌<◌, ◌+◌, ◌-◌, ◌^◌, [], ℕ, length, is_some, option_map, vec_len, vec_capacity, slice_index_or, IfOk, IfErr, IfSome, IfNone, OnOk, OnErr, Some, None, false, cond, if◌then◌else◌};
+ghost use Rattle.std.specs.Prelude.{◌≡◌, ◌≤◌, ◌<◌, ◌+◌, ◌-◌, ◌^◌, min, max, [], ℕ, length, is_some, option_map, vec_len, vec_capacity, slice_index_or, IfOk, IfErr, IfSome, IfNone, OnOk, OnErr, Some, None, false, cond, if◌then◌else◌};
 ghost use Rattle.std.specs.BTreeMap.{is_at};
 ghost use Rattle.std.specs.List.{AllByRecursion};
 ghost use Rattle.std.specs.List.Sorted.{IsStrictlySortedBy};
@@ -9,6 +9,7 @@ ghost use Rattle.std.specs.Ordering.{nat_cmp};
 ghost use Rattle.croner_scheduler.specs.Ids.{job_of};
 ghost use Rattle.croner_scheduler.specs.Private.Places.{entries_in, AreInRow, PutsInFront};
 ghost use Rattle.croner_scheduler.specs.Private.Steps.{jobs_with, job_at_position, job_standing_at, job_with_next, is_awaited_at, ArePartsOf};
+ghost use Rattle.croner_scheduler.specs.Room.{row_room};
 
 use crate::iter::Iter;
 use crate::room::{GONE_PART, LEAST_ROOM, ROOM_PART};
@@ -30,13 +31,19 @@ pub(crate) struct Jobs<J, T> {
 }
 
 impl<J, T> Model for Jobs<J, T> {
+    ghost use Rattle.std.specs.Prelude.{min};
     ghost use Rattle.croner_scheduler.specs.Ids.{ById};
     ghost use Rattle.croner_scheduler.specs.declared.waiting.Waiting.{Waiting};
     ghost use Rattle.croner_scheduler.specs.Private.Places.{entries_in, ArePlaces};
+    ghost use Rattle.croner_scheduler.specs.Room.{row_room};
 
     ghost Value = { ById (Waiting J T) };
 
-    ghost view = { λ a. record { entries = entries_in a.ids.items a.places.items; next_id = a.next_id } };
+    ghost view = { λ a. record {
+      entries = entries_in a.ids.items a.places.items;
+      next_id = a.next_id;
+      room = min (row_room a.ids) (row_room a.places);
+    } };
 
     ghost invariant = { λ a. ArePlaces a.ids.items a.places.items a.count a.next_id };
 }
@@ -113,7 +120,9 @@ impl<J, T> Jobs<J, T> {
         ensures count { OnOk result (length self.new.entries ≡ length self.old.entries + 1) }
         ensures next_id { OnOk result (self.new.next_id ≡ self.old.next_id + 1) }
         ensures returned { IfErr result (λ returned. returned ≡ waiting) }
-        ensures same { OnErr result (self.new ≡ self.old) }
+        ensures room { OnOk result (self.old.room ≤ self.new.room + 1) }
+        ensures full { OnErr result (self.old.room ≡ 0) }
+        ensures same { OnErr result ((self.new.entries ≡ self.old.entries) × (self.new.next_id ≡ self.old.next_id)) }
     {
         let Ok(()) = make_room(&mut self.ids, &mut self.places, self.count) else {
             return Err(waiting);
@@ -126,9 +135,20 @@ impl<J, T> Jobs<J, T> {
         Ok(id)
     }
 
+    // For how many more jobs there is room.
+    pub(crate) fn room(&self) -> usize
+        ensures room { result ≡ self.now.room }
+        ensures fits { length self.now.entries + result < 2 ^ 64 }
+    {
+        room_of(&self.ids).min(room_of(&self.places))
+    }
+
     // Takes room for so many more jobs.
     pub(crate) fn reserve(&mut self, additional: usize) -> Result<(), AllocError>
-        ensures { self.new ≡ self.old }
+        ensures same { (self.new.entries ≡ self.old.entries) × (self.new.next_id ≡ self.old.next_id) }
+        ensures no_less { self.old.room ≤ self.new.room }
+        ensures taken { OnOk result (self.new.room ≡ max self.old.room additional) }
+        ensures full { OnErr result (self.old.room < additional) }
     {
         self.ids.reserve_exact(additional)?;
         self.places.reserve_exact(additional)
@@ -269,6 +289,8 @@ fn make_room<J: Drop, T: Drop>(
     requires { length ids.old.items ≡ length places.old.items }
     ensures kept { AreInRow ids.old.items places.old.items ids.new.items places.new.items }
     ensures room { OnOk result ((vec_len ids.new < vec_capacity ids.new) × (vec_len places.new < vec_capacity places.new)) }
+    ensures no_less { min (row_room ids.old) (row_room places.old) ≤ min (row_room ids.new) (row_room places.new) }
+    ensures full { OnErr result (min (row_room ids.old) (row_room places.old) ≡ 0) }
 {
     thin_out(ids, places, count);
     take_room(ids)?;
@@ -283,7 +305,8 @@ fn thin_out<J: Drop, T: Drop>(
     count: usize,
 )
     requires { length ids.old.items ≡ length places.old.items }
-    ensures { AreInRow ids.old.items places.old.items ids.new.items places.new.items }
+    ensures row { AreInRow ids.old.items places.old.items ids.new.items places.new.items }
+    ensures no_less { min (row_room ids.old) (row_room places.old) ≤ min (row_room ids.new) (row_room places.new) }
 {
     if places.len() < places.capacity() || places.len() - places.len() / GONE_PART < count {
         return;
@@ -291,10 +314,19 @@ fn thin_out<J: Drop, T: Drop>(
     take_out_empty(ids, places);
 }
 
+// For how many more there is room.
+fn room_of<X>(items: &Vec<X>) -> usize
+    ensures { result ≡ row_room items.now }
+{
+    items.capacity() - items.len()
+}
+
 // Takes room for one more.
 fn take_room<X>(items: &mut Vec<X>) -> Result<(), AllocError>
     ensures items { items.new.items ≡ items.old.items }
     ensures room { OnOk result (vec_len items.new < vec_capacity items.new) }
+    ensures no_less { row_room items.old ≤ row_room items.new }
+    ensures full { OnErr result (row_room items.old ≡ 0) }
 {
     if items.len() < items.capacity() {
         return Ok(());

@@ -13,7 +13,9 @@ use crate::add::{not_added, not_added_for_memory};
 use crate::iter::Iter;
 use crate::jobs::Jobs;
 use crate::latest::{Last, last_of};
-use crate::turns::{Due, Turn, Turns, await_next, due_of, first_turn, make_room, reserve, settle};
+use crate::turns::{
+    Due, Turn, Turns, await_next, due_of, first_turn, make_room, reserve, room, settle,
+};
 use crate::waiting::{Waiting, next_of, second_before};
 use crate::{AddError, Added, Again, Latest, NotAdded, Replaced, Skip, Stops};
 use croner::{Clocked, Recurring};
@@ -66,7 +68,7 @@ impl<J: Recurring<T>, T: Clocked> Scheduler<J, T> {
     ghost use Rattle.std.specs.BTreeMap.{is_at};
     ghost use Rattle.std.specs.List.Sorted.{IsStrictlySortedBy};
     ghost use Rattle.std.specs.Map.{lookup, keys_of};
-    ghost use Rattle.croner_scheduler.specs.Views.{held_of};
+    ghost use Rattle.croner_scheduler.specs.Views.{capacity_of, held_of};
     ghost use Rattle.croner_scheduler.specs.Awaited.{AwaitsFirst, TakesAwaited, WakesFirst, IsSomeDue};
     ghost use Rattle.croner_scheduler.specs.Kept.{standing_of};
     ghost use Rattle.croner_scheduler.specs.declared.add.AddError.TheVariants.{OutOfMemory};
@@ -94,11 +96,22 @@ impl<J: Recurring<T>, T: Clocked> Scheduler<J, T> {
         }
     }
 
+    /// For how many jobs, in all, there is room. Until there are so many, [`add`](Scheduler::add) asks for no memory but what its search takes.
+    /// Calls that remove a job or move it may lower the number: the room of what has gone is used again only where there is no other.
+    pub fn capacity(&self) -> usize
+        ensures { result ≡ capacity_of self.now }
+    {
+        self.jobs.len() + self.jobs.room().min(room(&self.turns))
+    }
+
     /// Takes room for so many more jobs, for a program that knows how many it will add: their places then take no memory that isn't needed,
-    /// and none when they are added. Without it room for a sixteenth more is taken at a time. Nothing else changes; after lack of memory
-    /// there may be room for fewer.
+    /// and none when they are added. Without it room for a sixteenth more is taken at a time. Nothing else changes. After lack of memory
+    /// there is as much room as before, or some more. Where there is room for more than so many, memory isn't lacking.
     pub fn reserve(&mut self, additional: usize) -> Result<(), AllocError>
         ensures same { IsSame (held_of T.moment self.old) (held_of T.moment self.new) }
+        ensures no_less { capacity_of self.old ≤ capacity_of self.new }
+        ensures taken { OnOk result ((held_of T.moment self.new).count + additional ≤ capacity_of self.new) }
+        ensures full { OnErr result (capacity_of self.old ≤ (held_of T.moment self.old).count + additional) }
     {
         self.jobs.reserve(additional)?;
         reserve(&mut self.turns, additional)
@@ -180,6 +193,7 @@ impl<J: Recurring<T>, T: Clocked> Scheduler<J, T> {
         ensures refused { IfErr result (λ e. IsAddRefused (T.moment position) (held_of T.moment self.old) e.error) }
         ensures handed_back { IfErr result (IsHandedBack job position) }
         ensures same { OnErr result (IsSame (held_of T.moment self.old) (held_of T.moment self.new)) }
+        ensures no_less { capacity_of self.old ≤ capacity_of self.new }
     {
         if self.has_no_id_left() {
             return Err(not_added(job, position, AddError::NoIdLeft));
@@ -203,6 +217,7 @@ impl<J: Recurring<T>, T: Clocked> Scheduler<J, T> {
         ensures refused { IfErr result (λ e. IsAddFromRefused (T.moment start) (held_of T.moment self.old) e.error) }
         ensures handed_back { IfErr result (IsHandedBack job start) }
         ensures same { OnErr result (IsSame (held_of T.moment self.old) (held_of T.moment self.new)) }
+        ensures no_less { capacity_of self.old ≤ capacity_of self.new }
     {
         if self.has_no_id_left() {
             return Err(not_added(job, start, AddError::NoIdLeft));
@@ -531,6 +546,7 @@ impl<J: Recurring<T>, T: Clocked> Scheduler<J, T> {
         ensures refused { IfErr result (λ e. e.error ≡ OutOfMemory) }
         ensures handed_back { IfErr result (IsHandedBack job given) }
         ensures same { OnErr result (IsSame (held_of T.moment self.old) (held_of T.moment self.new)) }
+        ensures no_less { capacity_of self.old ≤ capacity_of self.new }
     {
         match Waiting::new(job, position) {
             Ok(waiting) => match self.keep(waiting) {
@@ -541,7 +557,7 @@ impl<J: Recurring<T>, T: Clocked> Scheduler<J, T> {
         }
     }
 
-    // Keeps a job under the next id, or gives it back for lack of memory.
+    // Keeps a job under the next id, or gives it back for lack of memory, which isn't asked for where there is room.
     fn keep(&mut self, waiting: Waiting<J, T>) -> Result<Added, Waiting<J, T>>
     where
         J: Drop,
@@ -551,6 +567,8 @@ impl<J: Recurring<T>, T: Clocked> Scheduler<J, T> {
         ensures told { IfOk result (λ added. TellsStop (held_of T.moment self.new) added.id added.is_stopped) }
         ensures returned { IfErr result (λ returned. returned ≡ waiting) }
         ensures same { OnErr result (IsSame (held_of T.moment self.old) (held_of T.moment self.new)) }
+        ensures no_less { capacity_of self.old ≤ capacity_of self.new }
+        ensures full { OnErr result (capacity_of self.old ≡ (held_of T.moment self.old).count) }
     {
         let Ok(()) = make_room(&mut self.turns, &self.jobs) else {
             return Err(waiting);

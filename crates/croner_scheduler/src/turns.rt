@@ -1,9 +1,10 @@
 //! The turns of the next runs: by their seconds, and at one second by the ids of their jobs.
-ghost use Rattle.std.specs.Prelude.{◌≡◌, ◌<◌, ◌≤◌, ◌+◌, ℕ, ℤ, length, true, false, cond, is_some, OnOk};
+ghost use Rattle.std.specs.Prelude.{◌≡◌, ◌<◌, ◌≤◌, ◌+◌, ℕ, ℤ, length, max, true, false, cond, is_some, OnOk, OnErr};
 ghost use Rattle.std.specs.BinaryHeap.{heap_items, heap_len, heap_capacity, IsHeap, KeepsHeap};
 ghost use Rattle.croner_scheduler.specs.Calls.{turn_of};
 ghost use Rattle.croner_scheduler.specs.Ids.{job_of};
 ghost use Rattle.croner_scheduler.specs.Private.Turns.{heap_cmp, has_turn, is_next_turn, top_of, IsFirstTurn, AreListed, AreListedBut, AreTurnsOf};
+ghost use Rattle.croner_scheduler.specs.Room.{heap_room};
 
 use crate::jobs::Jobs;
 use crate::room::{GONE_PART, LEAST_ROOM, ROOM_PART};
@@ -71,6 +72,8 @@ pub(crate) fn make_room<J, T>(turns: &mut Turns, jobs: &Jobs<J, T>) -> Result<()
     requires { AreTurnsOf (job_of jobs.now) (heap_items turns.old) }
     ensures turns { AreTurnsOf (job_of jobs.now) (heap_items turns.new) }
     ensures room { OnOk result (heap_len turns.new < heap_capacity turns.new) }
+    ensures no_less { heap_room turns.old ≤ heap_room turns.new }
+    ensures full { OnErr result (heap_room turns.old ≡ 0) }
 {
     thin_out(turns, jobs);
     take_room(turns)
@@ -79,7 +82,8 @@ pub(crate) fn make_room<J, T>(turns: &mut Turns, jobs: &Jobs<J, T>) -> Result<()
 // Puts the turns of the next runs anew, where there is no room for another and an eighth of the turns is of no job.
 fn thin_out<J, T>(turns: &mut Turns, jobs: &Jobs<J, T>)
     requires { AreTurnsOf (job_of jobs.now) (heap_items turns.old) }
-    ensures { AreTurnsOf (job_of jobs.now) (heap_items turns.new) }
+    ensures turns { AreTurnsOf (job_of jobs.now) (heap_items turns.new) }
+    ensures no_less { heap_room turns.old ≤ heap_room turns.new }
 {
     if turns.len() < turns.capacity() || turns.len() - turns.len() / GONE_PART < jobs.len() {
         return;
@@ -92,6 +96,8 @@ fn thin_out<J, T>(turns: &mut Turns, jobs: &Jobs<J, T>)
 fn take_room(turns: &mut Turns) -> Result<(), AllocError>
     ensures turns { heap_items turns.new ≡ heap_items turns.old }
     ensures room { OnOk result (heap_len turns.new < heap_capacity turns.new) }
+    ensures no_less { heap_room turns.old ≤ heap_room turns.new }
+    ensures full { OnErr result (heap_room turns.old ≡ 0) }
 {
     if turns.len() < turns.capacity() {
         return Ok(());
@@ -130,7 +136,8 @@ fn put(turns: &mut Turns, next: Next, id: u64)
 pub(crate) fn settle<J, T>(turns: &mut Turns, jobs: &Jobs<J, T>)
     requires ordered { IsHeap heap_cmp (heap_items turns.old) }
     requires listed { AreListed (job_of jobs.now) (heap_items turns.old) }
-    ensures { AreTurnsOf (job_of jobs.now) (heap_items turns.new) }
+    ensures turns { AreTurnsOf (job_of jobs.now) (heap_items turns.new) }
+    ensures no_less { heap_room turns.old ≤ heap_room turns.new }
 {
     while let Some(turn) = first_turn(turns) {
         if jobs.is_awaiting(turn) {
@@ -145,15 +152,26 @@ pub(crate) fn await_next<J, T>(turns: &mut Turns, jobs: &Jobs<J, T>, next: Next,
     requires room { heap_len turns.old < heap_capacity turns.old }
     requires ordered { IsHeap heap_cmp (heap_items turns.old) }
     requires listed { AreListedBut (job_of jobs.now) next id (heap_items turns.old) }
-    ensures { AreTurnsOf (job_of jobs.now) (heap_items turns.new) }
+    ensures turns { AreTurnsOf (job_of jobs.now) (heap_items turns.new) }
+    ensures room { heap_room turns.old ≤ heap_room turns.new + 1 }
 {
     put(turns, next, id);
     settle(turns, jobs);
 }
 
+// For how many more turns there is room.
+pub(crate) fn room(turns: &Turns) -> usize
+    ensures { result ≡ heap_room turns.now }
+{
+    turns.capacity() - turns.len()
+}
+
 // Takes room for so many more, and for one besides: where a run is given, the turn of the next one is put there before its own is taken away.
 pub(crate) fn reserve(turns: &mut Turns, additional: usize) -> Result<(), AllocError>
-    ensures { heap_items turns.new ≡ heap_items turns.old }
+    ensures turns { heap_items turns.new ≡ heap_items turns.old }
+    ensures no_less { heap_room turns.old ≤ heap_room turns.new }
+    ensures taken { OnOk result (heap_room turns.new ≡ max (heap_room turns.old) (additional + 1)) }
+    ensures full { OnErr result (heap_room turns.old ≤ additional) }
 {
     turns.reserve_exact(additional.saturating_add(1))
 }

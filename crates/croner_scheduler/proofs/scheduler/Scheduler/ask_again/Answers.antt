@@ -10,12 +10,6 @@ use Rattle.croner_scheduler.proofs.Puts.{put_fits, put_moved, put_tells, changed
 use Rattle.croner_scheduler.proofs.TurnHeap.{changed_listed}
 use Rattle.croner_scheduler.proofs.scheduler.Scheduler.ask_again.Goals as goal
 
-pub await_next-requires-clause-listed : goal.await_next-requires-clause-listed
-await_next-requires-clause-listed g c =
-    let self = c.args.self.now in
-    changed_listed (λ k. job_of self.jobs k) (λ k. job_of c.renew.new.self k) (heap_items c.make_room.new.turns) c.make_room.ensures.turns.1 c.args.id
-    c.in_ok-next.next (job_with_next c.in_ok-next.next) (λ w. refl) c.renew.ensures.jobs
-
 pub invariant_of-self-2 : goal.invariant_of-self-2
 invariant_of-self-2 g c =
     let self = c.args.self.now in
@@ -28,7 +22,7 @@ invariant_of-self-2 g c =
     } in
     let puts = changed_puts c.args.id (λ k. job_of self.jobs k) (λ k. job_of c.renew.new.self k) w there (job_with_next c.in_ok-next.next) c.renew.ensures.jobs in
     record {
-      turns_of = c.await_next.ensures;
+      turns_of = c.await_next.ensures.turns;
       fits = put_fits g.J.Recurring.runs g.T.CronDateTime.moment c.args.id (λ k. job_of self.jobs k) (λ k. job_of c.renew.new.self k)
           self.fits w there other fit puts;
     }
@@ -55,21 +49,3 @@ returns-clause-asked g c =
           self.fits w there other fit puts
           held held' (λ k. refl) (λ k. refl) c.renew.ensures.count c.renew.ensures.next_id refl refl,
     ))
-
-pub returns-clause-told : goal.returns-clause-told
-returns-clause-told g c =
-    let self = c.args.self.now in
-    let w = c.in-Some.waiting.now in
-    let there : job_of self.jobs c.args.id ≡ Some w = search rules in
-    let other = job_with_next c.in_ok-next.next w in
-    let fit : Fits g.J.Recurring.runs g.T.CronDateTime.moment other = record {
-      whole = stands_whole g.J.Recurring.runs g.T.CronDateTime.moment (job_of self.jobs c.args.id) w (self.fits c.args.id) there;
-      next = c.in_ok-next.ensures;
-    } in
-    let puts = changed_puts c.args.id (λ k. job_of self.jobs k) (λ k. job_of c.renew.new.self k) w there (job_with_next c.in_ok-next.next) c.renew.ensures.jobs in
-    let held = held_of g.T.CronDateTime.moment self in
-    let held' : Held _ = record { jobs = λ k. option_map (standing_of g.T.CronDateTime.moment) (job_of c.renew.new.self k); count = length c.renew.new.self.entries; next_id = c.renew.new.self.next_id } in
-    subst (AgainTellsStop c.args.id held') (sym c.again_result.ensures)
-    (tells_by held' c.args.id (is_some (stop_of c.in_ok-next.next))
-    (put_tells g.J.Recurring.runs g.T.CronDateTime.moment c.args.id (λ k. job_of self.jobs k) (λ k. job_of c.renew.new.self k)
-    self.fits w there other fit puts held held' (λ k. refl) (λ k. refl) c.renew.ensures.count c.renew.ensures.next_id))

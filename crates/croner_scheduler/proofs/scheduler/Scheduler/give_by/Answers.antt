@@ -11,11 +11,6 @@ returns-then-turn-now-clause-taken g c =
       record { jobs = λ id. refl; count = refl; next_id = refl },
     )
 
-pub returns-then-turn-now-clause-awaited : goal.returns-then-turn-now-clause-awaited
-returns-then-turn-now-clause-awaited g c =
-    let later : c.args.now <ℤ c.args.turn.second = omega (arith, ints, c.if-turn-now.true) in
-    awaits_later (held_of g.T.CronDateTime.moment c.args.self.now) c.args.now c.args.turn c.requires.awaited later
-
 on_err : {A E : Type 0} (P : Type 0) (r : Result A E) → P → OnErr r P
 on_err P (Ok a) h = tt
 on_err P (Err e) h = h

@@ -16,21 +16,3 @@ invariant_of-self g c =
       fits = passed_fits g.J.Recurring.runs g.T.CronDateTime.moment c.args.id c.args.position (λ k. job_of self.jobs k) (λ k. job_of c.move_before_next.new.self k)
           self.fits c.requires.whole c.requires.can c.move_before_next.ensures.jobs;
     }
-
-pub returns-clause-moved : goal.returns-clause-moved
-returns-clause-moved g c =
-    let self = c.args.self.now in
-    passed_moved g.J.Recurring.runs g.T.CronDateTime.moment c.args.id c.args.position (λ k. job_of self.jobs k) (λ k. job_of c.move_before_next.new.self k)
-    self.fits c.requires.whole c.requires.can c.move_before_next.ensures.jobs
-    (held_of g.T.CronDateTime.moment self)
-    (record { jobs = λ k. option_map (standing_of g.T.CronDateTime.moment) (job_of c.move_before_next.new.self k); count = length c.move_before_next.new.self.entries; next_id = c.move_before_next.new.self.next_id })
-    (λ k. refl) (λ k. refl) c.move_before_next.ensures.count c.move_before_next.ensures.next_id
-
-pub returns-clause-kept : goal.returns-clause-kept
-returns-clause-kept g c =
-    let self = c.args.self.now in
-    passed_kept g.J.Recurring.runs g.T.CronDateTime.moment c.args.id c.args.position (λ k. job_of self.jobs k) (λ k. job_of c.move_before_next.new.self k)
-    self.fits c.requires.whole c.requires.can c.move_before_next.ensures.jobs
-    (held_of g.T.CronDateTime.moment self)
-    (record { jobs = λ k. option_map (standing_of g.T.CronDateTime.moment) (job_of c.move_before_next.new.self k); count = length c.move_before_next.new.self.entries; next_id = c.move_before_next.new.self.next_id })
-    (λ k. refl) (λ k. refl)

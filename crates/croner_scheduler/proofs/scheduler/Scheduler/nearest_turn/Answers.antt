@@ -12,12 +12,6 @@ returns-clause-nearest g c =
     nearest g.J.Recurring.runs g.T.CronDateTime.moment (held_of g.T.CronDateTime.moment self) (λ id. job_of self.jobs id) (λ id. refl) self.fits
     c.first_turn.result (first_awaited (λ id. job_of self.jobs id) (heap_items self.turns) self.turns_of c.first_turn.result c.first_turn.ensures.top c.first_turn.ensures.first)
 
-pub returns-clause-turn : goal.returns-clause-turn
-returns-clause-turn g c =
-    let self = c.args.self.now in
-    first_is_awaited (λ id. job_of self.jobs id) c.first_turn.result
-    (first_awaited (λ id. job_of self.jobs id) (heap_items self.turns) self.turns_of c.first_turn.result c.first_turn.ensures.top c.first_turn.ensures.first)
-
 pub returns-clause-awaited : goal.returns-clause-awaited
 returns-clause-awaited g c =
     let self = c.args.self.now in

@@ -11,11 +11,6 @@ use Rattle.croner_scheduler.proofs.Given.{run_found}
 use Rattle.croner_scheduler.proofs.Puts.{fits_there}
 use Rattle.croner_scheduler.proofs.scheduler.Scheduler.run_of.Goals as goal
 
-pub returns-in_err-waiting : goal.returns-in_err-waiting
-returns-in_err-waiting g c =
-    let none : job_of c.args.self.now.jobs c.args.turn.id ≡ None = search rules in
-    absurd (false≢true (ap (is_awaited_at c.args.turn.second) (sym none) ∙ c.requires))
-
 pub returns : goal.returns
 returns g c =
     let moment = g.T.CronDateTime.moment in

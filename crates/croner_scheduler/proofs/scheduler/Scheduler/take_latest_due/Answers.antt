@@ -23,19 +23,6 @@ returns-in_default-due_second-clause-taken g c =
       record { jobs = λ id. refl; count = refl; next_id = refl },
     )
 
-pub give_last-requires-clause-turn : goal.give_last-requires-clause-turn
-give_last-requires-clause-turn g c =
-    let self = c.args.self.now in
-    let w = c.in-Some.waiting.now in
-    let known = c.in-Some-due_second.known in
-    let there : job_of self.jobs c.args.id ≡ Some w = search rules in
-    let run : due_second c.args.now w.next ≡ Some known = search rules in
-    let due = due_by c.args.now w.next known run in
-    let fits = fits_there g.J.Recurring.runs g.T.CronDateTime.moment (job_of self.jobs c.args.id) w (self.fits c.args.id) there in
-    let whole : SFits w64 known = search rules in
-    subst (λ (z : ℤ). is_awaited_at z (job_of self.jobs c.args.id) ≡ true) (sym (to_z-of_z w64 known whole))
-    (awaited g.J.Recurring.runs g.T.CronDateTime.moment c.args.now w fits known due.0 due.1 (job_of self.jobs c.args.id) there)
-
 if_ok : {A E : Type 0} (P Q : A → Type 0) (r : Result A E) → IfOk r P → ((a : A) → P a → Q a) → IfOk r Q
 if_ok P Q (Ok a) h f = f a h
 if_ok P Q (Err e) h f = tt
