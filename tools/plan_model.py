@@ -78,7 +78,8 @@ def warnings_of(text, is_system):
 
 def title_of_comment(text):
     title = text.lstrip(b" \t").lstrip(b"#").strip(b" \t")
-    return b"" if crontab_model.is_setting(title) or begins_as_job(title) else title
+    is_other = crontab_model.is_setting(title) or begins_as_job(title) or re.split(rb"[ \t]+", title)[:2] == [b"m", b"h"]
+    return b"" if is_other else title
 
 
 def begins_as_job(text):
@@ -141,7 +142,7 @@ def next_date(word, days=1):
 
 def span_of(zone, start, until=None):
     """The span of two words of a call. A date counts whole; another moment is the last second before the span, or in it."""
-    first = second_of(start, zone) + (0 if is_date(start) else 1)
+    first = second_of(start, zone) + (1 if start.startswith("@") else 0)
     if until is None:
         return first, second_of(next_date(start.partition("T")[0], 7), zone)
     return first, second_of(next_date(until), zone) if is_date(until) else second_of(until, zone) + 1

@@ -74,7 +74,7 @@ def judge_top(tally, what, case, plan, sections):
     tally.take(f"{what}: first lines", [plain(it.text()) for it in sections.top if it.name == "p"][:1], [f"{span}: {jobs}, with {starts} shown."])
     wanted = [f"{shown(plan.jobs[place].title)} {plan_texts.many(count)}" for place, count in plan.left_out]
     tally.take(f"{what}: left out", sections.lines("Not shown, since they start too often"), list(map(plain, wanted)))
-    tally.take(f"{what}: ignored", sections.lines("Not in this plan"), ignored_lines(case))
+    tally.take(f"{what}: ignored", sections.lines("Read this first"), ignored_lines(case))
 
 
 def beside_words(plan):
@@ -92,7 +92,8 @@ def ignored_lines(case):
                 if told["kind"] == "job" and told["job"]["times"]["when"] == "reboot":
                     grave.append("starts as the machine does: it has no time in a plan")
                 found += [plain(f"{file}:{line} {text}") for text in grave]
-        found += [plain(f"{name}: {it['text']}{name_after(it)}") for told in files if told["file"] == name for it in told["findings"]]
+        whole = [plain(f"{name}: {it['text']}{name_after(it)}") for told in files if told["file"] == name for it in told["findings"]]
+        found += whole + (["its jobs are in this plan, as cron would start them once that is mended"] if whole else [])
     return found
 
 

@@ -184,7 +184,7 @@ def week_lines(plan, signs):
 def change_line(_, before, after, count):
     first, last = [f"{date_name(wall // DAY)} {clock_text(wall)}" for wall in sorted((before, after))]
     told = f"skips {first} to {last}" if before < after else f"shows {first} to {last} twice"
-    return f"the clock {told}; {many(count)} then"
+    return f"the clock {told}" + (f"; {many(count)} then" if before < after else "")
 
 
 def dropped_lines(plan, second):

@@ -18,7 +18,7 @@ use croncheck_forms::json_reporter::JsonReporter;
 use croncheck_forms::sarif::Sarif;
 use croncheck_forms::sarif::rules::RULES;
 use croncheck_moments::moment::{
-    Moment, date_at, last_of_month, last_of_week, last_up_to, second_of, start_from,
+    Moment, date_at, last_of_month, last_of_week, last_up_to, plan_from, second_of, start_from,
 };
 use croncheck_moments::zone::{note_of, refusal_of};
 use croncheck_output::escaped::shown_text;
@@ -380,9 +380,17 @@ fn start_of(rt: &HostRuntime, call: &Call<'_>, zone: &TimeZone<'_>) -> Result<St
         },
     };
     Ok(Start {
-        second: start_from(from, first),
+        second: start_of_runs(call.verb, from, first),
         listing,
     })
+}
+
+// The second after which runs are looked at from a moment on, given the moment's own second.
+fn start_of_runs(verb: Verb, from: Moment, first: i64) -> i64 {
+    match verb {
+        Verb::Plan => plan_from(from, first),
+        Verb::Check | Verb::Show | Verb::Next | Verb::Describe => start_from(from, first),
+    }
 }
 
 // Checks with the clock of the zone, and its changes, from a start on.

@@ -193,6 +193,13 @@ start_from (moments.Second s) second = second
 start_from (moments.Civil civil) second = second
 start_from (moments.Date date) second = second -ℤ pos 1
 
+-- the same of a plan: a date and time counts too
+abbrev pub plan_from : Moment → ℤ → ℤ
+plan_from moments.Now second = second
+plan_from (moments.Second s) second = second
+plan_from (moments.Civil civil) second = second -ℤ pos 1
+plan_from (moments.Date date) second = second -ℤ pos 1
+
 -- ---- the ends of weeks and months
 
 -- the date that a zone's clock shows at a second: there is one where the second is held

@@ -10,7 +10,7 @@ ghost use Rattle.jiff.specs.ZoneView.{plain_zone};
 ghost use Rattle.jiff_core.specs.Date.{epoch_day};
 ghost use Rattle.jiff_core.specs.declared.Offset.{Offset};
 ghost use Rattle.jiff_tz.specs.Ambiguous.{IsInstantAt, instant_of};
-ghost use Rattle.croncheck_moments.specs.Moment.{IsDateAt, IsDaysAfter, IsEndOfMonth, IsEndOfSixth, IsEndOfWeek, ShowsDate, moment_text, IsNamed, IsRead, IsReadShown, IsShownAt, IsShownIn, IsSecondOf, IsLastUpTo, start_from};
+ghost use Rattle.croncheck_moments.specs.Moment.{IsDateAt, IsDaysAfter, IsEndOfMonth, IsEndOfSixth, IsEndOfWeek, ShowsDate, moment_text, IsNamed, IsRead, IsReadShown, IsShownAt, IsShownIn, IsSecondOf, IsLastUpTo, plan_from, start_from};
 
 use crate::date::{first_second_of, last_before_next, last_second_of, shows_date};
 use jiff::civil::{Date, DateTime};
@@ -175,6 +175,17 @@ pub fn start_from(moment: Moment, second: i64) -> i64
     match moment {
         Moment::Now | Moment::Second(_) | Moment::Civil(_) => second,
         Moment::Date(_) => second.saturating_sub(1),
+    }
+}
+
+/// The second after which a plan has starts from a moment on, given the moment's own second. A start at a date and time counts, and one at
+/// the first second of a date; one at another moment doesn't, so that a plan can go on after a start.
+pub fn plan_from(moment: Moment, second: i64) -> i64
+    ensures { IsHeldSecond second → result ≡ plan_from moment second }
+{
+    match moment {
+        Moment::Now | Moment::Second(_) => second,
+        Moment::Civil(_) | Moment::Date(_) => second.saturating_sub(1),
     }
 }
 

@@ -47,6 +47,10 @@ a_setting_with_blanks = refl
 an_equals_sign_in_words : heading comment (codes "# runs if x=y") ≡ Some (codes "runs if x=y")
 an_equals_sign_in_words = refl
 
+-- what names the fields is no title
+the_fields_named : heading comment (codes "# m h  dom mon dow   command") ≡ Some []
+the_fields_named = refl
+
 -- a word with a letter, and a line of dashes, are no minutes
 a_time_of_the_day : heading comment (codes "# 3am: nightly") ≡ Some (codes "3am: nightly")
 a_time_of_the_day = refl

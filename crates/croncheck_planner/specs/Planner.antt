@@ -23,8 +23,8 @@ use Rattle.croncheck_report.specs.declared.report.Report.{Report}
 use Rattle.croncheck_report.specs.declared.settings.Settings.{Settings}
 use Rattle.croncheck_report.specs.declared.shared.Shared.{Shared}
 use Rattle.croncheck_reading.specs.declared.tally.Tally.{Tally}
-use Rattle.croncheck_report.specs.FileSeen.{with_report}
-use Rattle.croncheck_output.specs.Output.{Written}
+use Rattle.croncheck_report.specs.FileSeen.{ending_of, with_report}
+use Rattle.croncheck_output.specs.Output.{Written, WritesApart}
 use Rattle.cronplan_forms.specs.Questions.{asks_none}
 use Rattle.croncheck_planner.specs.Plan.{job_found, answered_until, IsFound, IsListed}
 use Rattle.croncheck_planner.specs.PlanAnswers.{WritesAnswers}
@@ -254,3 +254,14 @@ WritesUnlessFile None s shared p old new = WritesPlanAs (asks_none p.asked.quest
 -- what is written after all files
 abbrev pub WritesPlan : Settings → Shared → Planner → Written → Written → Type 0
 WritesPlan s shared p old new = WritesUnlessFile p.asked.file s shared p old new
+
+-- ---- the end of a file
+
+-- what is said of a file as a whole, if anything is, and that its jobs are planned all the same
+abbrev pub planned_ending : List ℕ → List ℕ
+planned_ending [] = []
+planned_ending (b ∷ bs) = (b ∷ bs) ++ codes "  its jobs are in this plan, as cron would start them once that is mended\n"
+
+-- it was written, set apart
+abbrev pub WritesPlanEnding : Settings → Stand → Written → Written → Type 0
+WritesPlanEnding s stand old new = WritesApart (planned_ending (ending_of s.dialect stand.lines stand.file)) old new

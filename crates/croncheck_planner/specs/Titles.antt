@@ -3,7 +3,7 @@ use Rattle.std.specs.Prelude.{ℕ, ◌==◌, ◌-◌, ◌&&◌, ◌||◌, Bool, 
 use Rattle.std.specs.List.{list_all, list_any, prefix_len, suffix_len}
 use Rattle.crontab.specs.declared.bytes.Kind.TheVariants as kinds
 use Rattle.crontab.specs.Bytes.{front, is_digit, text_after, trim_end}
-use Rattle.crontab.specs.Line.{Line, Task, blank, comment, setting, job, pattern, refused}
+use Rattle.crontab.specs.Line.{Line, Task, next, blank, comment, setting, job, pattern, refused}
 use Rattle.crontab.specs.Setting.{is_setting}
 use Rattle.croncheck_report.specs.Allowed.{list_in}
 
@@ -12,11 +12,11 @@ use Rattle.croncheck_report.specs.Allowed.{list_in}
 abbrev pub is_hash : ℕ → Bool
 is_hash b = b == 35
 
--- a lone star
-abbrev pub is_star : List ℕ → Bool
-is_star [] = false
-is_star (b ∷ []) = b == 42
-is_star (b ∷ c ∷ bs) = false
+-- a byte alone
+abbrev pub is_lone : ℕ → List ℕ → Bool
+is_lone byte [] = false
+is_lone byte (b ∷ []) = b == byte
+is_lone byte (b ∷ c ∷ bs) = false
 
 -- an at sign stands in front
 abbrev pub is_at : List ℕ → Bool
@@ -36,7 +36,7 @@ is_of_field b = is_digit b || (b == 42 || (b == 44 || (b == 45 || b == 47)))
 
 -- a star, or a word of such bytes with a digit: the minutes of a job
 abbrev pub is_field : List ℕ → Bool
-is_field word = list_all is_of_field word && (is_star word || list_any is_digit word)
+is_field word = list_all is_of_field word && (is_lone 42 word || list_any is_digit word)
 
 -- a text begins with the minutes of a job, or with the sign of a nickname
 abbrev pub begins_as_job : List ℕ → Bool
@@ -46,9 +46,13 @@ begins_as_job text = is_at text || is_field (front kinds.Word text)
 abbrev pub reads_as_line : List ℕ → Bool
 reads_as_line text = is_setting text || begins_as_job text
 
--- the text of a comment that doesn't read as a line
+-- a text begins with `m h`, as the comment does that names the fields in what `crontab -e` begins a file with
+abbrev pub names_fields : List ℕ → Bool
+names_fields text = is_lone 109 (front kinds.Word text) && is_lone 104 (front kinds.Word (next text))
+
+-- the text of a comment that neither reads as a line nor names the fields of one
 abbrev pub title_text : List ℕ → List ℕ
-title_text text = if reads_as_line text then [] else text
+title_text text = if reads_as_line text || names_fields text then [] else text
 
 -- the title that a comment gives to the next line: one that allows something leaves what stands above it
 abbrev pub heading_unless : Option (List ℕ) → List ℕ → Option (List ℕ)

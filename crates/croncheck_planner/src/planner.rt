@@ -5,7 +5,7 @@ ghost use Rattle.croner.specs.Views.{job_of as meaning_of_job};
 ghost use Rattle.crontab.specs.Content.{IsOutcome};
 ghost use Rattle.crontab.specs.Entries.{entry_seen};
 ghost use Rattle.croncheck_output.specs.Output.{Written, written_of};
-ghost use Rattle.croncheck_planner.specs.Planner.{seen, planned_seen, job_shown, schedule_of, label_text, command_after, user_text, command_of, times_of, above_at, is_refused_by_user, with_job, jobs_seen, Adds, IsFoundBy, Keeps, Passes, PlansOutcome, WritesListed, WritesAnswered, WritesPlan};
+ghost use Rattle.croncheck_planner.specs.Planner.{seen, planned_seen, job_shown, schedule_of, label_text, command_after, user_text, command_of, times_of, above_at, is_refused_by_user, with_job, jobs_seen, Adds, IsFoundBy, Keeps, Passes, PlansOutcome, WritesListed, WritesAnswered, WritesPlan, planned_ending, WritesPlanEnding};
 ghost use Rattle.croncheck_output.specs.Escaped.{spaced};
 ghost use Rattle.croncheck_reading.specs.Stand.{stand_of};
 ghost use Rattle.croncheck_report.specs.Told.{IsDescription};
@@ -29,7 +29,7 @@ use croncheck_report::location::Location;
 use croncheck_report::report::report_of_line;
 use croncheck_report::settings::Settings;
 use croncheck_report::told::description_of;
-use croncheck_shown::reporter::{write_ending, write_report};
+use croncheck_shown::reporter::write_report;
 use croncheck_warnings::starred::is_starred;
 use croncheck_warnings::users::is_unknown;
 use croner::Cron;
@@ -296,12 +296,11 @@ impl Planner {
 }
 
 impl Form for Planner {
-    ghost use Rattle.croncheck_planner.specs.Planner.{Plans, seen, WritesPlan};
-    ghost use Rattle.croncheck_shown.specs.Reported.{WritesEnding};
+    ghost use Rattle.croncheck_planner.specs.Planner.{Plans, seen, WritesPlan, WritesPlanEnding};
 
     ghost takes = { λ terms old y new. Plans terms.settings.now old y new };
 
-    ghost ends_file = { λ terms planner stand old new. WritesEnding terms.settings.now stand old new };
+    ghost ends_file = { λ terms planner stand old new. WritesPlanEnding terms.settings.now stand old new };
 
     ghost ends = { λ terms planner old new. WritesPlan terms.settings.now terms.shared.now planner old new };
 
@@ -332,12 +331,40 @@ impl Form for Planner {
         progress: &Progress,
         output: &mut Output<W>,
     ) -> io::Result<()> {
-        write_ending(terms, progress, output)
+        write_plan_ending(terms, progress, output)
     }
 
     fn end<W: Write>(&self, terms: &Terms<'_, '_>, output: &mut Output<W>) -> io::Result<()> {
         self.end_plan(terms, output)
     }
+}
+
+/// Writes what cron makes of a file as a whole, if it makes anything of it, and that its jobs are planned all the same. The error is that of
+/// what is written to, or says that memory is lacking.
+pub(crate) fn write_plan_ending<W: Write>(
+    terms: &Terms<'_, '_>,
+    progress: &Progress,
+    output: &mut Output<W>,
+) -> io::Result<()>
+    ensures { OnOk result (WritesPlanEnding terms.now.settings.now (stand_of progress.now) (written_of W.contents output.old)
+        (written_of W.contents output.new)) }
+{
+    let ending = progress
+        .file
+        .ending(terms.alloc, terms.settings.dialect, progress.lines)?;
+    let text = planned_ending(ending)?;
+    output.write_apart(text.as_str())
+}
+
+fn planned_ending(mut ending: String) -> Result<String, AllocError>
+    ensures { IfOk result (λ text. string_bytes text ≡ planned_ending (string_bytes ending)) }
+{
+    if !ending.is_empty() {
+        ending.push_str(
+            "  its jobs are in this plan, as cron would start them once that is mended\n",
+        )?;
+    }
+    Ok(ending)
 }
 
 // Whether the user of an entry is none of those that are known.

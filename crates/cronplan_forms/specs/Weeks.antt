@@ -171,9 +171,16 @@ back_text expected shown = codes "the clock shows " ++ (wall_text shown ++ (code
 abbrev pub kind_text : ShownChange → List ℕ
 kind_text s = if is_put_forward s.change then forward_text s.expected s.shown else back_text s.expected s.shown
 
+-- how many starts come where the clock is put forward, at the second of the change
+unfoldable pub starts_then : ℕ → List ℕ
+starts_then starts = codes "; " ++ (starts_text starts ++ codes " then\n")
+
 -- a change as a line
+abbrev pub end_of_change : ShownChange → List ℕ
+end_of_change s = if is_put_forward s.change then starts_then s.starts else codes "\n"
+
 unfoldable pub change_line : ShownChange → List ℕ
-change_line s = kind_text s ++ (codes "; " ++ (starts_text s.starts ++ codes " then\n"))
+change_line s = kind_text s ++ end_of_change s
 
 -- a job that lacks a start there, since its time is skipped and not made up for, as a line: its file and line, and its title
 unfoldable pub dropped_line : List Job → ℕ → List ℕ

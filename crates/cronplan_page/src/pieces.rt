@@ -131,7 +131,7 @@ fn text_of_piece(piece: Piece) -> &'static str
         Piece::PlainItem => "<li class=\"w\">",
         Piece::ItemRest => "</b> ",
         Piece::ItemEnd => "</li>\n",
-        Piece::IgnoredHeading => "<h2>Not in this plan</h2>\n",
+        Piece::IgnoredHeading => "<h2>Read this first</h2>\n",
         Piece::FrequentHeading => "<h2>Not shown, since they start too often</h2>\n",
         Piece::QuietHeading =>
             "<h2>Longest quiet windows</h2>\n<p>None of the jobs shown starts in between.</p>\n",

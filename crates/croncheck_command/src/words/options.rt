@@ -38,6 +38,12 @@ const PRESET_OF_PATTERNS: &str =
 const PRESET_OF_FILES: &str =
     "With --patterns: reads them as this program does, as far as there are settings for it, and tells what it still reads otherwise";
 
+const RUNS_FROM: &str =
+    "Looks at runs from here on, this second left out; a date with its first second";
+
+const PLAN_FROM: &str =
+    "Plans what starts from here on, a date and time with its second; now and @SECONDS leave their second out";
+
 /// The verb of a name, if it is one.
 pub(super) fn verb_of(name: &str) -> Option<Verb> {
     match name {
@@ -145,7 +151,7 @@ fn check<'w>(alloc: Global) -> Result<Command<'w>, AllocError> {
 
 // With what `check` takes.
 fn with_checking<'w>(alloc: Global, command: Command<'w>) -> Result<Command<'w>, AllocError> {
-    let command = with_clock(alloc, command)?;
+    let command = with_clock(alloc, command, RUNS_FROM)?;
     let command = with_format(alloc, command)?;
     let command = with_output(
         alloc,
@@ -154,7 +160,7 @@ fn with_checking<'w>(alloc: Global, command: Command<'w>) -> Result<Command<'w>,
     )?;
     let command = with_kinds(alloc, command)?;
     let command = with_language(alloc, command)?;
-    let command = add(command, preset(alloc, PRESET_OF_FILES))?;
+    let command = add(command, setting(preset(alloc, PRESET_OF_FILES)?))?;
     let command = with_settings_of_files(alloc, command)?;
     let command = with_look(alloc, command)?;
     with_files(alloc, command)
@@ -177,7 +183,7 @@ fn show<'w>(alloc: Global) -> Result<Command<'w>, AllocError> {
     let command = Command::new(alloc, "show")
         .about(ABOUT_SHOW)
         .after_help(AFTER_HELP);
-    let command = with_clock(alloc, command)?;
+    let command = with_clock(alloc, command, RUNS_FROM)?;
     let command = with_span(alloc, command, "How many runs of each line, 0 to 1000")?;
     let command = with_previous(alloc, command)?;
     let command = with_often(alloc, command)?;
@@ -189,7 +195,7 @@ fn show<'w>(alloc: Global) -> Result<Command<'w>, AllocError> {
     )?;
     let command = with_kinds(alloc, command)?;
     let command = with_language(alloc, command)?;
-    let command = add(command, preset(alloc, PRESET_OF_FILES))?;
+    let command = add(command, setting(preset(alloc, PRESET_OF_FILES)?))?;
     let command = with_settings_of_files(alloc, command)?;
     let command = with_look(alloc, command)?;
     with_files(alloc, command)
@@ -199,7 +205,7 @@ fn plan<'w>(alloc: Global) -> Result<Command<'w>, AllocError> {
     let command = Command::new(alloc, "plan")
         .about(ABOUT_PLAN)
         .after_help(AFTER_HELP);
-    let command = with_clock(alloc, command)?;
+    let command = with_clock(alloc, command, PLAN_FROM)?;
     let command = with_span(
         alloc,
         command,
@@ -217,7 +223,7 @@ fn next<'w>(alloc: Global) -> Result<Command<'w>, AllocError> {
     let command = Command::new(alloc, "next")
         .about(ABOUT_NEXT)
         .after_help(AFTER_PATTERNS);
-    let command = with_clock(alloc, command)?;
+    let command = with_clock(alloc, command, RUNS_FROM)?;
     let command = with_span(alloc, command, "How many runs of each pattern, 0 to 1000")?;
     let command = with_previous(alloc, command)?;
     let command = with_often(alloc, command)?;
@@ -259,7 +265,12 @@ fn with_patterns<'w>(alloc: Global, command: Command<'w>) -> Result<Command<'w>,
     )
 }
 
-fn with_clock<'w>(alloc: Global, command: Command<'w>) -> Result<Command<'w>, AllocError> {
+// With the zone, and where runs begin.
+fn with_clock<'w>(
+    alloc: Global,
+    command: Command<'w>,
+    from: &'w str,
+) -> Result<Command<'w>, AllocError> {
     command
         .arg(
             value(alloc, "zone", "NAME|RULE|local")
@@ -269,9 +280,7 @@ fn with_clock<'w>(alloc: Global, command: Command<'w>) -> Result<Command<'w>, Al
         .arg(
             value(alloc, "from", "DATETIME|DATE|@SECONDS|now")
                 .default_value("now")
-                .help(
-                    "Looks at runs from here on, this second left out; a date with its first second",
-                ),
+                .help(from),
         )
 }
 

@@ -10,6 +10,9 @@ use std::alloc::{AllocError, Global};
 /// The most starts that a job may have on a day for answers to be about it, if no word says it.
 const MOST_A_DAY: u64 = 12;
 
+/// The option for that.
+const MOST: &str = "--most-a-day <N|all>";
+
 /// The word for jobs that start however often.
 const ALL: &str = "all";
 
@@ -35,12 +38,23 @@ pub(super) fn plan_asked(
         together: matches.get_flag("together"),
         month: matches.get_flag("month"),
     };
-    Ok(PlanAsked {
+    let asked = PlanAsked {
         has_commands: matches.get_flag("commands"),
         questions,
         most_a_day: most_a_day(alloc, matches)?,
         file: file_asked(alloc, verb, matches)?,
-    })
+    };
+    match matches.get_str("most-a-day") {
+        Some(word) if asked.questions.is_none() && asked.file.is_none() => {
+            Err(told_of_misuse(
+                alloc,
+                MOST,
+                word,
+                "a list has all starts: it goes with the other forms, as --week",
+            ))
+        }
+        Some(_) | None => Ok(asked),
+    }
 }
 
 // The file that is asked for: another verb has an option --json of its own.
@@ -120,12 +134,7 @@ fn most_a_day(alloc: Global, matches: &ArgMatches<'_>) -> Result<Option<u64>, No
         Some(ALL) => Ok(None),
         Some(word) => match word.parse::<u64>() {
             Ok(most) => Ok(Some(most)),
-            Err(_) => Err(told_of_misuse(
-                alloc,
-                "--most-a-day <N|all>",
-                word,
-                "write a number, or all",
-            )),
+            Err(_) => Err(told_of_misuse(alloc, MOST, word, "write a number, or all")),
         },
         None => Ok(Some(MOST_A_DAY)),
     }
@@ -183,11 +192,9 @@ fn with_questions<'w>(alloc: Global, command: Command<'w>) -> Result<Command<'w>
             .conflicts_with("runs"),
     )?;
     let command = with_files(alloc, command)?;
-    command.arg(
-        value(alloc, "most-a-day", "N|all").default_value("12").help(
-            "Leaves jobs with more starts on a day out of these answers, and names them",
-        ),
-    )
+    command.arg(value(alloc, "most-a-day", "N|all").help(
+        "Leaves jobs with more starts on a day out of these answers, and names them; else 12",
+    ))
 }
 
 // With what is asked of a plan as a file.

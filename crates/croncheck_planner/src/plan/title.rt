@@ -3,7 +3,7 @@ ghost use Rattle.std.specs.Prelude.{◌≡◌, ◌≤◌, length, option_map, If
 ghost use Rattle.std.specs.List.{list_all, list_any, prefix_len, suffix_len};
 ghost use Rattle.crontab.specs.Bytes.{is_digit};
 ghost use Rattle.crontab.specs.Entries.{entry_seen, job_seen};
-ghost use Rattle.croncheck_planner.specs.Titles.{is_hash, is_no_slash, is_of_field, is_star, is_at, is_field, begins_as_job, reads_as_line, title_text, without_hashes, comment_text, heading, heading_of_comment, is_equals, last_part, title_of_word, title_of_command, title_of_job, title_of};
+ghost use Rattle.croncheck_planner.specs.Titles.{is_hash, is_no_slash, is_of_field, is_lone, is_at, is_field, begins_as_job, names_fields, reads_as_line, title_text, without_hashes, comment_text, heading, heading_of_comment, is_equals, last_part, title_of_word, title_of_command, title_of_job, title_of};
 
 use croncheck_report::allowed::comment::list_in;
 use crontab::bytes::{Kind, cut, is_digit, trim_end};
@@ -12,7 +12,7 @@ use crontab::setting::is_setting;
 use std::alloc::{AllocError, Global};
 
 /// The title that a line gives to the next one: the text of a comment, or an empty one if the line isn't a comment, or is one that reads as
-/// a setting or begins as a job does. `None` for a comment that allows something: it leaves the title of the comment above it.
+/// a setting, begins as a job does or names the fields of a job. `None` for a comment that allows something: it leaves the title of the comment above it.
 ///
 /// The only error is lack of memory.
 pub(crate) fn heading_of(
@@ -43,11 +43,15 @@ fn heading_of_comment(alloc: Global, line: &[u8]) -> Result<Option<Vec<u8>>, All
     Ok(Some(text))
 }
 
-// A text that doesn't read as a line; else nothing, since it may be a line that was taken out, which may hold a password.
+// A text that neither reads as a line nor names the fields of one; else nothing. A line that was taken out may hold a password.
 fn title_text(text: &[u8]) -> &[u8]
     ensures { result.now ≡ title_text text.now }
 {
-    if reads_as_line(text) { &[] } else { text }
+    if reads_as_line(text) || names_fields(text) {
+        &[]
+    } else {
+        text
+    }
 }
 
 // Whether a text reads as a setting, or begins as a job does.
@@ -55,6 +59,14 @@ fn reads_as_line(text: &[u8]) -> bool
     ensures { result ≡ reads_as_line text.now }
 {
     is_setting(text) || begins_as_job(text)
+}
+
+// Whether a text begins as the comment does that names the fields in what `crontab -e` begins a file with.
+fn names_fields(text: &[u8]) -> bool
+    ensures { result ≡ names_fields text.now }
+{
+    let (minute, rest) = word(text);
+    is_lone(minute, b'm') && is_lone(word(rest).0, b'h')
 }
 
 // Whether a text begins with the sign of a nickname, or with the minutes of a job.
@@ -77,7 +89,7 @@ fn is_at(text: &[u8]) -> bool
 fn is_field(word: &[u8]) -> bool
     ensures { result ≡ is_field word.now }
 {
-    is_made_for_field(word) && (is_star(word) || has_digit(word))
+    is_made_for_field(word) && (is_lone(word, b'*') || has_digit(word))
 }
 
 fn is_made_for_field(word: &[u8]) -> bool
@@ -86,11 +98,11 @@ fn is_made_for_field(word: &[u8]) -> bool
     word.iter().all(|byte| is_of_field(*byte))
 }
 
-fn is_star(word: &[u8]) -> bool
-    ensures { result ≡ is_star word.now }
+fn is_lone(word: &[u8], byte: u8) -> bool
+    ensures { result ≡ is_lone byte word.now }
 {
     match word {
-        [only] => *only == b'*',
+        [only] => *only == byte,
         [] | [_, _, ..] => false,
     }
 }

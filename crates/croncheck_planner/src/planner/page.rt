@@ -7,7 +7,7 @@ ghost use Rattle.croncheck_planner.specs.PlanFiles.{IsPage};
 ghost use Rattle.croncheck_planner.specs.Planner.{job_planned, jobs_seen};
 ghost use Rattle.croncheck_shown.specs.Shown.{place_text};
 
-use super::{ClockNames, Planner, is_refused_by_user};
+use super::{ClockNames, Planner, is_refused_by_user, write_plan_ending};
 use crate::plan::answers::jobs_of;
 use crate::plan::beside::{other_table, view_beside};
 use crate::plan::title::heading_of;
@@ -22,7 +22,6 @@ use croncheck_report::report::Report;
 use croncheck_report::settings::Settings;
 use croncheck_report::told::Told;
 use croncheck_runs::runs::Listing;
-use croncheck_shown::reporter::write_ending;
 use croner::errors::CronError;
 use cronplan_forms::PlanAsked;
 use cronplan_page::{About, Line as PageLine, Warnings, page_of};
@@ -141,11 +140,11 @@ impl PagePlanner {
 impl Form for PagePlanner {
     ghost use Rattle.std.specs.Prelude.{◌≡◌};
     ghost use Rattle.croncheck_planner.specs.PagePlans.{PlansLine};
-    ghost use Rattle.croncheck_shown.specs.Reported.{WritesEnding};
+    ghost use Rattle.croncheck_planner.specs.Planner.{WritesPlanEnding};
 
     ghost takes = { λ terms old y new. PlansLine terms.settings.now old y new };
 
-    ghost ends_file = { λ terms planner stand old new. WritesEnding terms.settings.now stand old new };
+    ghost ends_file = { λ terms planner stand old new. WritesPlanEnding terms.settings.now stand old new };
 
     ghost ends = { λ terms planner old new. new ≡ old };
 
@@ -188,7 +187,7 @@ impl Form for PagePlanner {
         progress: &Progress,
         output: &mut Output<W>,
     ) -> io::Result<()> {
-        write_ending(terms, progress, output)
+        write_plan_ending(terms, progress, output)
     }
 
     fn end<W: Write>(&self, _terms: &Terms<'_, '_>, _output: &mut Output<W>) -> io::Result<()> {

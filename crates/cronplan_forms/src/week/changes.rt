@@ -1,7 +1,7 @@
 //! The changes of a clock below a picture.
 ghost use Rattle.std.specs.Prelude.{◌≡◌, ◌++◌, IfOk, OnOk, map, string_bytes};
 ghost use Rattle.std.specs.List.{All};
-ghost use Rattle.cronplan_forms.specs.Weeks.{kind_text, IsShownChange, IsNamedWall, expected_wall, is_put_forward, change_line, change_text, change_lines, dropped_at, dropped_line, dropped_lines, forward_text, back_text};
+ghost use Rattle.cronplan_forms.specs.Weeks.{kind_text, IsShownChange, IsNamedWall, expected_wall, is_put_forward, starts_then, end_of_change, change_line, change_text, change_lines, dropped_at, dropped_line, dropped_lines, forward_text, back_text};
 
 use crate::answers::{Starts, push_job_name};
 use crate::clock::{TimeOfDay, second_of_day};
@@ -127,9 +127,25 @@ fn push_change(text: &mut String, change: ShownChange) -> Result<(), AllocError>
     ensures { OnOk result (string_bytes text.new ≡ string_bytes text.old ++ change_line change) }
 {
     push_kind(text, change)?;
-    let starts = Starts {
-        count: change.starts,
-    };
+    push_end(text, change)
+}
+
+// The end of a change's line: how many starts there are then, where the clock is put forward.
+fn push_end(text: &mut String, change: ShownChange) -> Result<(), AllocError>
+    ensures { OnOk result (string_bytes text.new ≡ string_bytes text.old ++ end_of_change change) }
+{
+    if is_put_forward(change.change) {
+        push_starts_then(text, change.starts)
+    } else {
+        text.push_str("\n")
+    }
+}
+
+#[tactic(auto, unfolding(crate::specs::Weeks::starts_then))]
+fn push_starts_then(text: &mut String, count: u64) -> Result<(), AllocError>
+    ensures { OnOk result (string_bytes text.new ≡ string_bytes text.old ++ starts_then count) }
+{
+    let starts = Starts { count };
     write!(text, "; {starts} then\n")
 }
 
