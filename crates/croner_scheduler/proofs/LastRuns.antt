@@ -1,5 +1,5 @@
 -- The last run of a job that is due is what its search backward answers.
-use Rattle.std.proofs.Common.{rules, ◌≡◌, refl, sym, ap, subst, arith, ℕ, ℤ, ◌<ℤ◌, ◌≤ℤ◌, int_lt, int_le, Bool, true, false, cond, Option, None, Some, IfOk, IfSome}
+use Rattle.std.proofs.Common.{rules, ◌≡◌, refl, sym, ap, subst, arith, ℕ, ℤ, ◌<ℤ◌, ◌≤ℤ◌, int_lt, int_le, Bool, true, false, cond, None, Some, IfOk, IfSome}
 use Rattle.std.proofs.Math.Logic.{∥∥₁_elim, ∥∥₁_map}
 use Rattle.std.proofs.Props.{props}
 use Rattle.std.proofs.lemmas.Bool.{false≢true}
@@ -21,10 +21,10 @@ use Rattle.croner_scheduler.specs.declared.waiting.Stop.TheVariants as stops
 use Rattle.croner_scheduler.specs.declared.waiting.Next.{Next}
 use Rattle.croner_scheduler.specs.declared.waiting.Next.TheVariants.{Run, Over, Stopped}
 use Rattle.croner_scheduler.specs.declared.waiting.Waiting.{Waiting}
-use Rattle.croner_scheduler.specs.Calls.{IsNotDue, IsLastDue, IsToTake, TakesLatest}
+use Rattle.croner_scheduler.specs.Calls.{IsNotDue, IsLastDue, TakesLatest}
 use Rattle.croner_scheduler.specs.Kept.{StopsAt, FitsNext, Fits, standing_of, stop_of, second_of}
 use Rattle.croner_scheduler.specs.Private.Latest.{due_second, last_of_run, last_of_refusal, FitsLast, IsLastGiven}
-use Rattle.croner_scheduler.specs.Private.Steps.{is_next_at, is_awaited_at}
+use Rattle.croner_scheduler.specs.Private.Steps.{is_next_at}
 use Rattle.croner_scheduler.specs.Standing.{Standing, Held}
 use Rattle.croner_scheduler.proofs.Nearest.{seen_before, same_second, is_itself}
 use Rattle.croner_scheduler.proofs.NextRuns.{not_promised}
@@ -103,10 +103,6 @@ module _ {J T : Type 0} (runs : J → Zone → ℤ → Type 0) (moment : T → M
     after_position : (moment w.position).instant <ℤ known
     after_position = ∥∥₁_elim fits (hlevel props) (λ f. (next_fits f).1)
 
-    -- it awaits its second
-    pub awaited : (o : Option (Waiting J T)) → o ≡ Some w → is_awaited_at known o ≡ true
-    awaited o there = subst (λ o. is_awaited_at known o ≡ true) (sym there) (subst (λ n. is_next_at known n ≡ true) (sym next) (is_itself known))
-
     from_next : (i : ℤ) → known ≤ℤ i → IsSomeAnd (standing_of moment w).next (λ n. n ≤ℤ i)
     from_next i le = subst (λ n. IsSomeAnd (second_of n) (λ n. n ≤ℤ i)) (sym next) le
 
@@ -136,9 +132,6 @@ module _ {J T : Type 0} (runs : J → Zone → ℤ → Type 0) (moment : T → M
     module _ (h h' : Held J) (id : ℕ) (there : h.jobs id ≡ Some (standing_of moment w)) (held : (moment w.position).zone.holds now ≡ true) where
       own : (P : Standing J → Type 0) → P (standing_of moment w) → IsSomeAnd (h.jobs id) P
       own P holds = subst (λ o. IsSomeAnd o P) (sym there) holds
-
-      pub to_take : IsSomeAnd (h.jobs id) (IsToTake now)
-      to_take = own _ (from_next now due, held)
 
       pub takes : (last : Last T) → FitsLast (runs w.job) moment known (at_instant (moment w.position).zone now) last
           → (answer : Latest) → IsLastGiven moment h id known last h' answer → TakesLatest runs id now h h' answer

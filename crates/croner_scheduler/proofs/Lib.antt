@@ -7,7 +7,6 @@ pub mod TurnHeap
 pub mod NextRuns
 pub mod LastRuns
 pub mod Nearest
-pub mod Changes
 pub mod Puts
 pub mod Passed
 pub mod Given

@@ -18,7 +18,7 @@ use Rattle.croner_scheduler.specs.declared.waiting.Next.{Next}
 use Rattle.croner_scheduler.specs.declared.waiting.Next.TheVariants.{Run, Over, Stopped}
 use Rattle.croner_scheduler.specs.declared.waiting.Waiting.{Waiting}
 use Rattle.croner_scheduler.specs.Standing.{Standing, Held, Seen}
-use Rattle.croner_scheduler.specs.Awaited.{WaitsAfter, AwaitsFirst, TakesAwaited, IsSomeDue}
+use Rattle.croner_scheduler.specs.Awaited.{WaitsAfter, AwaitsFirst, IsSomeDue}
 use Rattle.croner_scheduler.specs.Calls.{IsGivable, ComesAfter, IsFirst, IsNotDue, HasNoneSeen, IsNearest}
 use Rattle.croner_scheduler.specs.Private.Turns.{IsFirstTurn}
 use Rattle.croner_scheduler.specs.Kept.{standing_of, stop_of, FitsNext, Fits, second_of}
@@ -127,12 +127,6 @@ module _ {J T : Type 0} (runs : J → Zone → ℤ → Type 0) (moment : T → M
   nearest None first = λ l. subst (λ o. IfSome o (HasNoneSeen runs)) (sym (is l))
       (none_seen runs moment (jobs l) (fits l) (λ s. first s l))
 
--- the first turn is that of a run that is awaited
-pub first_is_awaited : {J T : Type 0} (jobs : ℕ → Option (Waiting J T)) (first : Option Turn) → IsFirstTurn (λ s k. is_awaited_at s (jobs k)) first
-    → IfSome first (λ turn. is_awaited_at turn.second (jobs turn.id) ≡ true)
-first_is_awaited jobs (Some turn) first = first.0
-first_is_awaited jobs None first = tt
-
 -- where the nearest run comes later than now, none is due
 module _ {J : Type 0} (runs : J → Zone → ℤ → Type 0) (h : Held J) (now : ℤ) where
   pub none_due : (due : Turn) → IsFirst runs h due.id due.second → now <ℤ due.second → (l : ℕ) → IfSome (h.jobs l) (IsNotDue runs now)
@@ -183,18 +177,6 @@ module _ {J T : Type 0} (moment : T → Moment) (h : Held J) (jobs : ℕ → Opt
       none_in (Some w) none = none_next w.next none
 
 module _ {J : Type 0} (h : Held J) (now : ℤ) where
-  -- where the first comes later than now, or there is none, each comes later
-  pub awaits_later : (due : Turn) → AwaitsFirst h (Some due) → now <ℤ due.second → TakesAwaited h now None
-  awaits_later due first later l = by (h.jobs l) (first.1 l)
-    where
-      by_run : (o : Option ℤ) → IfSome o (λ j. (due.second ≤ℤ j) × (j ≡ due.second → due.id ≤ l)) → IfSome o (λ j. now <ℤ j)
-      by_run None h = tt
-      by_run (Some j) h = omega (arith, ints, later, h.0)
-
-      by : (o : Option (Standing J)) → IfSome o (WaitsAfter due.id due.second l) → IfSome o (λ s. IfSome s.next (λ j. now <ℤ j))
-      by None h = tt
-      by (Some s) h = by_run s.next h
-
   -- where the first comes no later, one is due
   pub awaits_due : (due : Turn) → AwaitsFirst h (Some due) → due.second ≤ℤ now → IsSomeDue h now
   awaits_due due first le = (due.id, by (h.jobs due.id) first.0)
@@ -202,10 +184,3 @@ module _ {J : Type 0} (h : Held J) (now : ℤ) where
       by : (o : Option (Standing J)) → IsSomeAnd o (λ s. s.next ≡ Some due.second) → IsSomeAnd o (λ s. IsSomeAnd s.next (λ j. j ≤ℤ now))
       by None h = h
       by (Some s) h = subst (λ o. IsSomeAnd o (λ j. j ≤ℤ now)) (sym h) le
-
-  pub awaits_none : AwaitsFirst h None → TakesAwaited h now None
-  awaits_none none l = by (h.jobs l) (none l)
-    where
-      by : (o : Option (Standing J)) → IfSome o (λ s. s.next ≡ None) → IfSome o (λ s. IfSome s.next (λ j. now <ℤ j))
-      by None h = tt
-      by (Some s) h = subst (λ o. IfSome o (λ j. now <ℤ j)) (sym h) tt

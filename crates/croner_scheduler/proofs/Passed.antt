@@ -4,17 +4,14 @@ use Rattle.std.proofs.Math.Logic.{∥∥₁_map}
 use Rattle.std.proofs.lemmas.Bool.{false≢true}
 use Rattle.std.proofs.lemmas.Int.{ints}
 use Rattle.std.specs.BTreeMap.{is_at}
-use Rattle.std.specs.Option.{IsSomeAnd}
 use Rattle.std.specs.Ordering.{nat_cmp}
 use Rattle.croner_base.specs.Calm.{IsCalm}
 use Rattle.croner_base.specs.Zone.{Zone, Moment}
-use Rattle.croner_scheduler.proofs.Ids.{own_id, other_id, each}
+use Rattle.croner_scheduler.proofs.Ids.{own_id, each}
 use Rattle.croner_scheduler.specs.declared.waiting.Next.{Next}
 use Rattle.croner_scheduler.specs.declared.waiting.Next.TheVariants.{Run, Over, Stopped}
 use Rattle.croner_scheduler.specs.declared.waiting.Waiting.{Waiting}
-use Rattle.croner_scheduler.specs.Calls.{StandsAt, MovesTo}
-use Rattle.croner_scheduler.specs.Kept.{standing_of, stop_of, StopsAt, FitsNext, Fits}
-use Rattle.croner_scheduler.specs.Standing.{Held}
+use Rattle.croner_scheduler.specs.Kept.{FitsNext, Fits}
 use Rattle.croner_scheduler.specs.Private.Steps.{jobs_with, job_standing_at, is_next_after, CanStand}
 
 module _ (rs : Zone → ℤ → Type 0) where
@@ -35,11 +32,6 @@ module _ (rs : Zone → ℤ → Type 0) where
   )
   next_from m m' zone whole on Over later fits = absurd (false≢true later)
   next_from m m' zone whole on (Stopped stop) later fits = absurd (false≢true later)
-
-goes_on : (m : Moment) (i : ℤ) (n : Next) → is_next_after i n ≡ true → IfSome (stop_of n) (StopsAt m)
-goes_on m i (Run j) later = tt
-goes_on m i Over later = tt
-goes_on m i (Stopped stop) later = absurd (false≢true later)
 
 module _ {J T : Type 0} (runs : J → Zone → ℤ → Type 0) (moment : T → Moment) (id : ℕ) (position : T) (jobs jobs' : ℕ → Option (Waiting J T))
     (fits : (k : ℕ) → ∥ IfSome (jobs k) (Fits runs moment) ∥₁) (whole : (moment position).fraction ≡ 0)
@@ -62,46 +54,3 @@ module _ {J T : Type 0} (runs : J → Zone → ℤ → Type 0) (moment : T → M
         whole = whole;
         next = next_from (runs w.job) (moment w.position) (moment position) can.zone fits.whole can.on w.next can.later fits.next;
       }
-
-  module _ (h h' : Held J) (is : (k : ℕ) → h.jobs k ≡ option_map (standing_of moment) (jobs k))
-      (is' : (k : ℕ) → h'.jobs k ≡ option_map (standing_of moment) (jobs' k)) where
-    pub passed_moved : h'.count ≡ h.count → h'.next_id ≡ h.next_id → MovesTo h id (moment position).instant h'
-    passed_moved count next_id = record {
-      moved =
-          subst (λ o. IfSome o (λ s. IsSomeAnd (h'.jobs id) (StandsAt s.job s.position.zone (moment position).instant))) (sym (is id))
-          (subst (λ o. IfSome (option_map (standing_of moment) (jobs id)) (λ s. IsSomeAnd o (StandsAt s.job s.position.zone (moment position).instant)))
-          (sym (is' id ∙ ap (option_map (standing_of moment)) passed_own)) (own (jobs id) can));
-      rest = record {
-        others = λ k apart. is' k ∙ ap (option_map (standing_of moment)) (passed_apart k (other_id id k apart)) ∙ sym (is k);
-        count = count;
-        next_id = next_id;
-      };
-    }
-      where
-        own : (o : Option (Waiting J T)) → IfSome o (CanStand moment position)
-            → IfSome (option_map (standing_of moment) o)
-            (λ s. IsSomeAnd (option_map (standing_of moment) (option_map (job_standing_at position) o)) (StandsAt s.job s.position.zone (moment position).instant))
-        own None can = tt
-        own (Some w) can = record {
-          job_is = refl;
-          zone_is = can.zone;
-          instant = refl;
-          whole = whole;
-          stop = goes_on (moment position) (moment position).instant w.next can.later;
-        }
-
-    pub passed_kept : IfSome (h.jobs id) (λ s. IsSomeAnd (h'.jobs id) (λ s'. (s'.next ≡ s.next) × (s'.stop ≡ None)))
-    passed_kept =
-        subst (λ o. IfSome o (λ s. IsSomeAnd (h'.jobs id) (λ s'. (s'.next ≡ s.next) × (s'.stop ≡ None)))) (sym (is id))
-        (subst (λ o. IfSome (option_map (standing_of moment) (jobs id)) (λ s. IsSomeAnd o (λ s'. (s'.next ≡ s.next) × (s'.stop ≡ None))))
-        (sym (is' id ∙ ap (option_map (standing_of moment)) passed_own)) (own (jobs id) can))
-      where
-        goes : (i : ℤ) (n : Next) → is_next_after i n ≡ true → stop_of n ≡ None
-        goes i (Run j) later = refl
-        goes i Over later = refl
-        goes i (Stopped stop) later = absurd (false≢true later)
-
-        own : (o : Option (Waiting J T)) → IfSome o (CanStand moment position) → IfSome (option_map (standing_of moment) o)
-            (λ s. IsSomeAnd (option_map (standing_of moment) (option_map (job_standing_at position) o)) (λ s'. (s'.next ≡ s.next) × (s'.stop ≡ None)))
-        own None can = tt
-        own (Some w) can = (refl, goes (moment position).instant w.next can.later)

@@ -1,6 +1,6 @@
 -- What a scheduler holds stays in order when a job is put in the place of one: another job, or the same at another position or with another
 -- run next.
-use Rattle.std.proofs.Common.{◌≡◌, refl, sym, ap, ◌∙◌, subst, ℕ, ℤ, Bool, true, false, cond, Option, None, Some, IfSome, IsSome, is_some, option_map}
+use Rattle.std.proofs.Common.{◌≡◌, refl, sym, ap, ◌∙◌, subst, ℕ, ℤ, Bool, true, false, cond, Option, Some, IfSome, option_map}
 use Rattle.std.proofs.Math.Logic.{∥∥₁_elim}
 use Rattle.std.proofs.Props.{props}
 use Rattle.std.proofs.lemmas.Grind.{merely}
@@ -8,13 +8,20 @@ use Rattle.std.specs.BTreeMap.{is_at}
 use Rattle.std.specs.Option.{IsSomeAnd}
 use Rattle.std.specs.Ordering.{nat_cmp}
 use Rattle.croner_base.specs.Zone.{Zone, Moment}
-use Rattle.croner_scheduler.proofs.Changes.{stops_where}
 use Rattle.croner_scheduler.proofs.Ids.{own_id, other_id, each}
+use Rattle.croner_scheduler.specs.declared.waiting.Next.{Next}
+use Rattle.croner_scheduler.specs.declared.waiting.Next.TheVariants.{Run, Over, Stopped}
 use Rattle.croner_scheduler.specs.declared.waiting.Waiting.{Waiting}
-use Rattle.croner_scheduler.specs.Calls.{StandsAt, TellsStop, is_asked, AgainTellsStop, IsSameBut, MovesTo, IsGivenBack, IsPut}
-use Rattle.croner_scheduler.specs.Kept.{standing_of, stop_of, Fits}
+use Rattle.croner_scheduler.specs.Calls.{StandsAt, is_asked, IsSameBut, MovesTo}
+use Rattle.croner_scheduler.specs.Kept.{standing_of, stop_of, StopsAt, FitsNext, Fits}
 use Rattle.croner_scheduler.specs.Standing.{Standing, Held}
-use Rattle.croner_scheduler.specs.Private.Steps.{jobs_with, again_of, ArePartsOf}
+use Rattle.croner_scheduler.specs.Private.Steps.{jobs_with, again_of}
+
+-- where a job stops, the reason holds there
+pub stops_where : (rs : Zone → ℤ → Type 0) (m : Moment) (n : Next) → FitsNext rs m n → IfSome (stop_of n) (StopsAt m)
+stops_where rs m (Run i) fits = tt
+stops_where rs m Over fits = tt
+stops_where rs m (Stopped stop) fits = fits
 
 module _ {J T : Type 0} (runs : J → Zone → ℤ → Type 0) (moment : T → Moment) (id : ℕ) (jobs jobs' : ℕ → Option (Waiting J T))
     (fits : (k : ℕ) → ∥ IfSome (jobs k) (Fits runs moment) ∥₁)
@@ -40,23 +47,6 @@ module _ {J T : Type 0} (runs : J → Zone → ℤ → Type 0) (moment : T → M
       next_id = next_id;
     }
 
-    pub put_is : IsPut other.job (moment other.position) h id h'
-    put_is = record {
-      put = subst (λ o. IsSomeAnd o (StandsAt other.job (moment other.position).zone (moment other.position).instant))
-          (sym (is' id ∙ ap (option_map (standing_of moment)) put_own)) (record {
-            job_is = refl;
-            zone_is = refl;
-            instant = refl;
-            whole = fit.whole;
-            stop = stops_where (runs other.job) (moment other.position) other.next fit.next;
-          });
-      rest = put_rest;
-    }
-
-    pub put_tells : TellsStop h' id (is_some (stop_of other.next))
-    put_tells =
-        subst (λ o. IsSomeAnd o (λ s. is_some (stop_of other.next) ≡ is_some s.stop)) (sym (is' id ∙ ap (option_map (standing_of moment)) put_own)) refl
-
     pub put_moved : other.job ≡ w.job → (moment other.position).zone ≡ (moment w.position).zone → MovesTo h id (moment other.position).instant h'
     put_moved job zone = record {
       moved =
@@ -81,17 +71,6 @@ module _ {J T : Type 0} (id : ℕ) (jobs jobs' : ℕ → Option (Waiting J T)) (
       (changes id ∙ subst (λ o. cond (is_at (nat_cmp id) id) (option_map change o) o ≡ cond (is_at (nat_cmp id) id) (option_map (λ _. change w) o) o) (sym there) refl)
       (λ k e. changes k ∙ ap (λ b. cond b (option_map change (jobs k)) (jobs k)) e ∙ sym (ap (λ b. cond b (option_map (λ _. change w) (jobs k)) (jobs k)) e))
 
--- there is a job where there is a standing
-pub there_is : {J T : Type 0} (moment : T → Moment) (o : Option (Waiting J T)) → IsSome (option_map (standing_of moment) o) → (w : Waiting J T) × (o ≡ Some w)
-there_is moment None some = absurd (cc)
-there_is moment (Some w) some = (w, refl)
-
--- what stood there is given back
-pub given_back : {J T : Type 0} (moment : T → Moment) (o : Option (Waiting J T)) (parts : J × T) → ArePartsOf o parts
-    → IsGivenBack moment (option_map (standing_of moment) o) (Some parts)
-given_back moment None parts are = absurd are
-given_back moment (Some w) parts are = (are.0, ap moment are.1)
-
 -- a job fits where it stands
 pub fits_there : {J T : Type 0} (runs : J → Zone → ℤ → Type 0) (moment : T → Moment) (o : Option (Waiting J T)) (w : Waiting J T)
     → ∥ IfSome o (Fits runs moment) ∥₁ → o ≡ Some w → ∥ Fits runs moment w ∥₁
@@ -112,7 +91,3 @@ of_standing moment P o w there holds = subst (λ o. IsSomeAnd (option_map (stand
 pub asked_by : (b : Bool) → is_asked (again_of b) ≡ true
 asked_by true = refl
 asked_by false = refl
-
-pub tells_by : {J : Type 0} (h : Held J) (k : ℕ) (b : Bool) → TellsStop h k b → AgainTellsStop k h (again_of b)
-tells_by h k true tells = tells
-tells_by h k false tells = tells

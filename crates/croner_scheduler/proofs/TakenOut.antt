@@ -28,9 +28,6 @@ module _ {W : Type 0} (ids₀ : List ℕ) (places₀ : List (Option W)) where
     pub ordered : IsStrictlySortedBy nat_cmp ids₀ → IsStrictlySortedBy nat_cmp (take kept ids ++ drop place ids)
     pub below : (n : ℕ) → AllByRecursion (λ id. id < n) ids₀ → AllByRecursion (λ id. id < n) (take kept ids ++ drop place ids)
 
-  pub none_moved : length ids₀ ≡ length places₀ → Moves 0 0 ids₀ places₀
-  none_moved beside = record { front = omega arith; beside = beside; many = refl; entries = refl; ordered = λ o. o; below = λ n b. b }
-
   module _ (kept place : ℕ) (ids : List ℕ) (places : List (Option W)) (moves : Moves kept place ids places) (lt : place < length places) where
     id_lt : place < length ids
     id_lt = omega (arith, lt, moves.beside)

@@ -6,24 +6,11 @@ use Rattle.std.specs.BinaryHeap.{IsHeap, PopsGreatest}
 use Rattle.std.specs.List.Sorted.{IsPermutation}
 use Rattle.std.specs.Map.{lookup}
 use Rattle.std.specs.declared.cmp.Reverse.{Reverse}
-use Rattle.croner_scheduler.proofs.Ids.{own_id, same_id, each}
-use Rattle.croner_scheduler.proofs.TurnOrder.{is_turn_here, is_turn_apart, same_turn, without_turn}
+use Rattle.croner_scheduler.proofs.TurnOrder.{same_turn, without_turn}
 use Rattle.croner_scheduler.specs.declared.turns.Turn.{Turn}
-use Rattle.croner_scheduler.specs.declared.waiting.Next.{Next}
-use Rattle.croner_scheduler.specs.declared.waiting.Next.TheVariants.{Run, Over, Stopped}
 use Rattle.croner_scheduler.specs.declared.waiting.Waiting.{Waiting}
-use Rattle.croner_scheduler.specs.Private.Steps.{jobs_with, job_standing_at, is_next_at, is_awaited_at}
-use Rattle.croner_scheduler.specs.Private.Turns.{heap_cmp, has_turn, is_turn, is_next_turn, top_of, IsFirstTurn, is_awaited, AreListed, AreListedBut, AreTurnsOf}
-
-turn_here : (n : Next) (id : ℕ) (s : ℤ) → is_next_turn n id s id ≡ is_next_at s n
-turn_here (Run i) id s = is_turn_here i s id id (own_id id)
-turn_here Over id s = refl
-turn_here (Stopped stop) id s = refl
-
-turn_apart : (n : Next) (id : ℕ) (s : ℤ) (k : ℕ) → is_at (nat_cmp id) k ≡ false → is_next_turn n id s k ≡ false
-turn_apart (Run i) id s k e = is_turn_apart i s id k e
-turn_apart Over id s k e = refl
-turn_apart (Stopped stop) id s k e = refl
+use Rattle.croner_scheduler.specs.Private.Steps.{jobs_with, job_standing_at, is_awaited_at}
+use Rattle.croner_scheduler.specs.Private.Turns.{heap_cmp, has_turn, is_turn, top_of, IsFirstTurn, is_awaited, AreListed, AreTurnsOf}
 
 -- ---- the first turn
 
@@ -70,34 +57,7 @@ still_heap turns turns' n n' None pops same heap = subst (IsHeap heap_cmp) (sym 
 
 -- ---- a job changes
 
-module _ {J T : Type 0} (jobs jobs' : ℕ → Option (Waiting J T)) (turns : List (Reverse (ℤ × ℕ))) (listed : AreListed jobs turns) (id : ℕ) (next : Next) where
-  listed_but : ((k : ℕ) → is_at (nat_cmp id) k ≡ false → jobs' k ≡ jobs k) → ((s : ℤ) → is_awaited_at s (jobs' id) ≡ true → is_next_at s next ≡ true)
-      → AreListedBut jobs' next id turns
-  listed_but apart own s = each id (λ k. is_awaited_at s (jobs' k) ≡ true → cond (is_next_turn next id s k) true (has_turn turns s k) ≡ true)
-      (λ at. ap (λ b. cond b true (has_turn turns s id)) (turn_here next id s ∙ own s at))
-      (λ k e at. ap (λ b. cond b true (has_turn turns s k)) (turn_apart next id s k e) ∙ listed s k (sym (ap (is_awaited_at s) (apart k e)) ∙ at))
-
-  pub added_listed : (w : Waiting J T) → w.next ≡ next → ((k : ℕ) → jobs' k ≡ cond (is_at (nat_cmp id) k) (Some w) (jobs k)) → AreListedBut jobs' next id turns
-  added_listed w is put = listed_but
-      (λ k e. put k ∙ ap (λ b. cond b (Some w) (jobs k)) e)
-      (λ s at. ap (is_next_at s) (sym is) ∙ sym (ap (is_awaited_at s) (put id ∙ ap (λ b. cond b (Some w) (jobs id)) (own_id id))) ∙ at)
-
-  pub changed_listed : (change : Waiting J T → Waiting J T) → ((w : Waiting J T) → (change w).next ≡ next)
-      → ((k : ℕ) → jobs' k ≡ jobs_with id change k (jobs k)) → AreListedBut jobs' next id turns
-  changed_listed change is changes = listed_but
-      (λ k e. changes k ∙ ap (λ b. cond b (option_map change (jobs k)) (jobs k)) e)
-      (λ s at. own s (jobs id) (sym (ap (is_awaited_at s) (changes id ∙ ap (λ b. cond b (option_map change (jobs id)) (jobs id)) (own_id id))) ∙ at))
-    where
-      own : (s : ℤ) (o : Option (Waiting J T)) → is_awaited_at s (option_map change o) ≡ true → is_next_at s next ≡ true
-      own s None at = absurd (false≢true at)
-      own s (Some w) at = ap (is_next_at s) (sym (is w)) ∙ at
-
 module _ {J T : Type 0} (jobs jobs' : ℕ → Option (Waiting J T)) (turns : List (Reverse (ℤ × ℕ))) (id : ℕ) where
-  pub removed_listed : ((k : ℕ) → jobs' k ≡ cond (is_at (nat_cmp id) k) None (jobs k)) → AreListed jobs turns → AreListed jobs' turns
-  removed_listed taken listed s = each id (λ k. is_awaited_at s (jobs' k) ≡ true → has_turn turns s k ≡ true)
-      (λ at. absurd (false≢true (sym (ap (is_awaited_at s) (taken id ∙ ap (λ b. cond b None (jobs id)) (own_id id))) ∙ at)))
-      (λ k e at. listed s k (sym (ap (is_awaited_at s) (taken k ∙ ap (λ b. cond b None (jobs k)) e)) ∙ at))
-
   pub passed_turns : (position : T) → ((k : ℕ) → jobs' k ≡ jobs_with id (job_standing_at position) k (jobs k)) → AreTurnsOf jobs turns → AreTurnsOf jobs' turns
   passed_turns position stands of = (
     of.0,
@@ -122,44 +82,7 @@ module _ {J T : Type 0} (jobs jobs' : ℕ → Option (Waiting J T)) (turns : Lis
 
 -- ---- all turns are put anew, one job after the other
 
-other_way : (x y : ℕ) → is_at (nat_cmp x) y ≡ false → is_at (nat_cmp y) x ≡ false
-other_way x y e = by (is_at (nat_cmp y) x) refl
-  where
-    by : (b : Bool) → is_at (nat_cmp y) x ≡ b → b ≡ false
-    by true same = absurd (false≢true (sym e ∙ subst (λ z. is_at (nat_cmp x) z ≡ true) (sym (same_id y x same)) (own_id x)))
-    by false e = refl
-
 module _ {J T : Type 0} (jobs : ℕ → Option (Waiting J T)) where
   -- each next run has its turn, but those of the jobs that are left
   abbrev pub AreListedUpTo : List (ℕ × Waiting J T) → List (Reverse (ℤ × ℕ)) → Type 0
   AreListedUpTo left turns = (s : ℤ) (k : ℕ) → is_awaited_at s (jobs k) ≡ true → (has_turn turns s k || is_awaited_at s (lookup (is_at (nat_cmp k)) left)) ≡ true
-
-  pub one_put : (id : ℕ) (w : Waiting J T) (left : List (ℕ × Waiting J T)) (turns turns' : List (Reverse (ℤ × ℕ)))
-      → ((s : ℤ) (k : ℕ) → has_turn turns' s k ≡ cond (is_next_turn w.next id s k) true (has_turn turns s k))
-      → AreListedUpTo ((id, w) ∷ left) turns → AreListedUpTo left turns'
-  one_put id w left turns turns' put up s k at =
-      ap (λ b. b || is_awaited_at s (lookup (is_at (nat_cmp k)) left)) (put s k) ∙ by (is_at (nat_cmp k) id) refl (up s k at)
-    where
-      here : (has awaited rest : Bool) → (has || awaited) ≡ true → (cond awaited true has || rest) ≡ true
-      here true true rest e = refl
-      here true false rest e = refl
-      here false true rest e = refl
-      here false false rest e = absurd (false≢true e)
-
-      by : (b : Bool) → is_at (nat_cmp k) id ≡ b
-          → (has_turn turns s k || is_awaited_at s (cond b (Some w) (lookup (is_at (nat_cmp k)) left))) ≡ true
-          → (cond (is_next_turn w.next id s k) true (has_turn turns s k) || is_awaited_at s (lookup (is_at (nat_cmp k)) left)) ≡ true
-      by true same e =
-          subst (λ b. (cond b true (has_turn turns s k) || is_awaited_at s (lookup (is_at (nat_cmp k)) left)) ≡ true)
-          (sym (ap (λ i. is_next_turn w.next i s k) (sym (same_id k id same)) ∙ turn_here w.next k s))
-          (here (has_turn turns s k) (is_next_at s w.next) (is_awaited_at s (lookup (is_at (nat_cmp k)) left)) e)
-      by false apart e =
-          subst (λ b. (cond b true (has_turn turns s k) || is_awaited_at s (lookup (is_at (nat_cmp k)) left)) ≡ true)
-          (sym (turn_apart w.next id s k (other_way k id apart))) e
-
-  pub all_put : (turns : List (Reverse (ℤ × ℕ))) → AreListedUpTo [] turns → AreListed jobs turns
-  all_put turns up s k at = by (has_turn turns s k) (up s k at)
-    where
-      by : (b : Bool) → (b || false) ≡ true → b ≡ true
-      by true e = refl
-      by false e = e

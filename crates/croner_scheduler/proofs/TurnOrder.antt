@@ -6,7 +6,7 @@ use Rattle.std.proofs.lemmas.Int.{ints}
 use Rattle.std.proofs.lemmas.List.Sorted.{list_any-IsPermutation}
 use Rattle.std.specs.BinaryHeap.{IsUpperBound}
 use Rattle.std.specs.List.Sorted.{IsPermutation}
-use Rattle.std.specs.Ordering.{MatchOrdering, nat_cmp, int_cmp, int_eq, is_lt, is_eq, ordering_then}
+use Rattle.std.specs.Ordering.{MatchOrdering, nat_cmp, int_cmp, is_lt, is_eq, ordering_then}
 use Rattle.std.specs.declared.cmp.Ordering.{Ordering}
 use Rattle.std.specs.declared.cmp.Ordering.TheVariants.{Less, Equal, Greater}
 use Rattle.std.specs.declared.cmp.Reverse.{Reverse}
@@ -35,23 +35,6 @@ module _ (a b : ℤ) (x y : ℕ) where
       by Equal Equal same eq e = (same, eq)
       by Equal Greater same gt e = absurd (false≢true e)
       by Greater s gt m e = absurd (false≢true e)
-
-  -- whether two turns of one job are one, and of two jobs
-  pub is_turn_here : is_eq (nat_cmp x y) ≡ true → is_turn a x b y ≡ int_eq a b
-  is_turn_here e = here (int_cmp a b) (nat_cmp x y) e
-    where
-      here : (r s : Ordering) → is_eq s ≡ true → is_eq (ordering_then r s) ≡ is_eq r
-      here Less s e = refl
-      here Equal s e = e
-      here Greater s e = refl
-
-  pub is_turn_apart : is_eq (nat_cmp x y) ≡ false → is_turn a x b y ≡ false
-  is_turn_apart e = apart (int_cmp a b) (nat_cmp x y) e
-    where
-      apart : (r s : Ordering) → is_eq s ≡ false → is_eq (ordering_then r s) ≡ false
-      apart Less s e = refl
-      apart Equal s e = e
-      apart Greater s e = refl
 
 pub is_own_turn : (a : ℤ) (x : ℕ) → is_turn a x a x ≡ true
 is_own_turn a x = by (int_cmp a a) (nat_cmp x x) (int_ranked a a _ refl) (ranked x x _ refl)

@@ -12,7 +12,7 @@ ghost use Rattle.croner_scheduler.specs.Private.Steps.{jobs_with, job_at_positio
 ghost use Rattle.croner_scheduler.specs.Room.{row_room};
 
 use crate::iter::Iter;
-use crate::room::{GONE_PART, LEAST_ROOM, ROOM_PART};
+use crate::room::{has_many_gone, room_besides};
 use crate::turns::Turn;
 use crate::waiting::{Next, Waiting};
 use std::alloc::{AllocError, Global};
@@ -308,10 +308,9 @@ fn thin_out<J: Drop, T: Drop>(
     ensures row { AreInRow ids.old.items places.old.items ids.new.items places.new.items }
     ensures no_less { min (row_room ids.old) (row_room places.old) ≤ min (row_room ids.new) (row_room places.new) }
 {
-    if places.len() < places.capacity() || places.len() - places.len() / GONE_PART < count {
-        return;
+    if has_many_gone(places.len(), places.capacity(), count) {
+        take_out_empty(ids, places);
     }
-    take_out_empty(ids, places);
 }
 
 // For how many more there is room.
@@ -331,7 +330,7 @@ fn take_room<X>(items: &mut Vec<X>) -> Result<(), AllocError>
     if items.len() < items.capacity() {
         return Ok(());
     }
-    items.reserve_exact(items.len() / ROOM_PART + LEAST_ROOM)
+    items.reserve_exact(room_besides(items.len()))
 }
 
 // Takes out the empty places.

@@ -1,10 +1,26 @@
 //! How much room is taken for jobs and turns to come, and when that of those that are gone is used again.
+ghost use Rattle.std.specs.Prelude.{◌<◌, ◌≤◌, IsTrue};
 
-// Where there is no room for one more, those that are gone are taken out, if an eighth of all is gone.
-pub(crate) const GONE_PART: usize = 8;
+// Those that are gone are taken out where there is no room for one more, if an eighth of all is gone.
+const GONE_PART: usize = 8;
 
 // Else room is taken for a sixteenth besides.
-pub(crate) const ROOM_PART: usize = 16;
+const ROOM_PART: usize = 16;
 
 // And for so many besides, so that some room is taken where there are few.
-pub(crate) const LEAST_ROOM: usize = 4;
+const LEAST_ROOM: usize = 4;
+
+// Whether those that are gone are to be taken out, of so many with room for so many, of which so many are left.
+pub(crate) fn has_many_gone(len: usize, capacity: usize, left: usize) -> bool
+    ensures full { IsTrue result → capacity ≤ len }
+    ensures left { IsTrue result → left ≤ len }
+{
+    capacity <= len && left <= len - len / GONE_PART
+}
+
+// For how many besides so many room is taken.
+pub(crate) fn room_besides(len: usize) -> usize
+    ensures { 0 < result }
+{
+    len / ROOM_PART + LEAST_ROOM
+}

@@ -7,7 +7,7 @@ ghost use Rattle.croner_scheduler.specs.Private.Turns.{heap_cmp, has_turn, is_ne
 ghost use Rattle.croner_scheduler.specs.Room.{heap_room};
 
 use crate::jobs::Jobs;
-use crate::room::{GONE_PART, LEAST_ROOM, ROOM_PART};
+use crate::room::{has_many_gone, room_besides};
 use crate::waiting::Next;
 use std::alloc::AllocError;
 use std::cmp::Reverse;
@@ -85,11 +85,10 @@ fn thin_out<J, T>(turns: &mut Turns, jobs: &Jobs<J, T>)
     ensures turns { AreTurnsOf (job_of jobs.now) (heap_items turns.new) }
     ensures no_less { heap_room turns.old ≤ heap_room turns.new }
 {
-    if turns.len() < turns.capacity() || turns.len() - turns.len() / GONE_PART < jobs.len() {
-        return;
+    if has_many_gone(turns.len(), turns.capacity(), jobs.len()) {
+        put_anew(turns, jobs);
+        settle(turns, jobs);
     }
-    put_anew(turns, jobs);
-    settle(turns, jobs);
 }
 
 // Takes room for one more.
@@ -102,7 +101,7 @@ fn take_room(turns: &mut Turns) -> Result<(), AllocError>
     if turns.len() < turns.capacity() {
         return Ok(());
     }
-    turns.reserve_exact(turns.len() / ROOM_PART + LEAST_ROOM)
+    turns.reserve_exact(room_besides(turns.len()))
 }
 
 // Puts the turns of the next runs in place of all turns. There has to be room for that many.

@@ -1,13 +1,11 @@
 use Rattle.std.proofs.Common.{rules, ◌≡◌, refl, sym, ap, ◌∙◌, subst, Some, IsSome, is_some, option_map, length}
-use Rattle.std.specs.BinaryHeap.{heap_items}
 use Rattle.croner_scheduler.specs.Ids.{job_of}
-use Rattle.croner_scheduler.specs.Calls.{MovesTo, AsksAgain, is_asked, AgainTellsStop}
+use Rattle.croner_scheduler.specs.Calls.{MovesTo, AsksAgain, is_asked}
 use Rattle.croner_scheduler.specs.Kept.{standing_of, stop_of, Fits}
 use Rattle.croner_scheduler.specs.Private.Steps.{job_with_next}
 use Rattle.croner_scheduler.specs.Standing.{Held}
 use Rattle.croner_scheduler.specs.Views.{held_of}
-use Rattle.croner_scheduler.proofs.Puts.{put_fits, put_moved, put_tells, changed_puts, asked_by, tells_by, stands_whole, of_standing}
-use Rattle.croner_scheduler.proofs.TurnHeap.{changed_listed}
+use Rattle.croner_scheduler.proofs.Puts.{put_fits, put_moved, changed_puts, asked_by, stands_whole, of_standing}
 use Rattle.croner_scheduler.proofs.scheduler.Scheduler.ask_again.Goals as goal
 
 pub invariant_of-self-2 : goal.invariant_of-self-2

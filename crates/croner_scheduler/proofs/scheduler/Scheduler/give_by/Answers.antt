@@ -1,7 +1,7 @@
 use Rattle.std.proofs.Common.{refl, arith, ◌<ℤ◌, ◌≤ℤ◌, Result, Ok, Err, OnErr}
 use Rattle.std.proofs.lemmas.Int.{ints}
 use Rattle.croner_scheduler.specs.Views.{held_of}
-use Rattle.croner_scheduler.proofs.Nearest.{none_due, awaits_later, awaits_due}
+use Rattle.croner_scheduler.proofs.Nearest.{none_due, awaits_due}
 use Rattle.croner_scheduler.proofs.scheduler.Scheduler.give_by.Goals as goal
 
 pub returns-then-turn-now-clause-taken : goal.returns-then-turn-now-clause-taken

@@ -1,9 +1,6 @@
-use Rattle.std.proofs.Common.{refl, option_map, length}
 use Rattle.std.specs.BinaryHeap.{heap_items}
 use Rattle.croner_scheduler.specs.Ids.{job_of}
-use Rattle.croner_scheduler.specs.Kept.{standing_of}
-use Rattle.croner_scheduler.specs.Views.{held_of}
-use Rattle.croner_scheduler.proofs.Passed.{passed_fits, passed_moved, passed_kept}
+use Rattle.croner_scheduler.proofs.Passed.{passed_fits}
 use Rattle.croner_scheduler.proofs.TurnHeap.{passed_turns}
 use Rattle.croner_scheduler.proofs.scheduler.Scheduler.move_before_next.Goals as goal
 

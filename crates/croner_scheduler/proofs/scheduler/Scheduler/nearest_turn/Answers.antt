@@ -2,7 +2,7 @@ use Rattle.std.proofs.Common.{refl}
 use Rattle.std.specs.BinaryHeap.{heap_items}
 use Rattle.croner_scheduler.specs.Ids.{job_of}
 use Rattle.croner_scheduler.specs.Views.{held_of}
-use Rattle.croner_scheduler.proofs.Nearest.{nearest, first_is_awaited, awaits_first}
+use Rattle.croner_scheduler.proofs.Nearest.{nearest, awaits_first}
 use Rattle.croner_scheduler.proofs.TurnHeap.{first_awaited}
 use Rattle.croner_scheduler.proofs.scheduler.Scheduler.nearest_turn.Goals as goal
 

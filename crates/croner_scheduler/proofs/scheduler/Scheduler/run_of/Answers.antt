@@ -1,5 +1,4 @@
-use Rattle.std.proofs.Common.{rules, ◌≡◌, sym, ap, ◌∙◌, subst, ℤ, true, None, Some, IfSome, option_map, w64, SFits}
-use Rattle.std.proofs.lemmas.Bool.{false≢true}
+use Rattle.std.proofs.Common.{rules, ◌≡◌, sym, subst, ℤ, true, Some, IfSome, option_map, w64, SFits}
 use Rattle.std.proofs.lemmas.Int.{to_z-of_z}
 use Rattle.std.specs.Option.{IsSomeAnd}
 use Rattle.croner_base.specs.Clocked.{IsAtSecond}

@@ -1,13 +1,12 @@
-use Rattle.std.proofs.Common.{rules, ◌≡◌, refl, sym, ap, subst, ℤ, ◌<ℤ◌, true, None, Some, Result, Ok, Err, IfOk, IfSome, w64, SFits, option_map}
+use Rattle.std.proofs.Common.{rules, ◌≡◌, refl, ap, subst, ℤ, ◌<ℤ◌, true, None, Some, Result, Ok, Err, IfOk, IfSome, w64, SFits, option_map}
 use Rattle.std.proofs.lemmas.Int.{to_z-of_z}
 use Rattle.croner_base.specs.Zone.{at_instant}
 use Rattle.croner_scheduler.specs.Ids.{job_of}
-use Rattle.croner_scheduler.proofs.LastRuns.{due_by, not_due, awaited, takes}
+use Rattle.croner_scheduler.proofs.LastRuns.{due_by, not_due, takes}
 use Rattle.croner_scheduler.proofs.Puts.{fits_there, of_standing}
 use Rattle.croner_scheduler.specs.Calls.{IsNotDue, TakesLatest}
 use Rattle.croner_scheduler.specs.Kept.{standing_of}
 use Rattle.croner_scheduler.specs.Private.Latest.{due_second, FitsLast, IsLastGiven}
-use Rattle.croner_scheduler.specs.Private.Steps.{is_awaited_at}
 use Rattle.croner_scheduler.specs.Views.{held_of}
 use Rattle.croner_scheduler.proofs.scheduler.Scheduler.take_latest_due.Goals as goal
 
