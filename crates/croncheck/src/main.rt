@@ -8,7 +8,8 @@ mod saved;
 use croncheck_changes::changes::Changes;
 use croncheck_command::problem::Problem;
 use croncheck_command::words::{
-    Call, Color, Format, LEAST_WIDTH, MOST_WIDTH, NoCall, Span, USAGE, Verb, read_call, version,
+    Call, Color, Format, LEAST_WIDTH, LOCAL, MOST_WIDTH, NoCall, Span, USAGE, Verb, read_call,
+    version,
 };
 use croncheck_files::names::Asked;
 use croncheck_files::root::{Root, root_at};
@@ -49,9 +50,6 @@ use std::process::ExitCode;
 use std::{env, fs, io};
 
 const MISUSED: u8 = 2;
-
-/// The word of a call for the zone of a machine.
-pub(crate) const LOCAL: &str = "local";
 
 /// The folder in which this machine's files stand.
 const THIS_MACHINE: &str = "/";

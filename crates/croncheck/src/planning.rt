@@ -1,9 +1,9 @@
 //! A plan, as texts or as a file.
 
 use crate::saved::save;
-use crate::{LOCAL, Named, tell_in};
+use crate::{Named, tell_in};
 use croncheck_command::problem::Problem;
-use croncheck_command::words::Call;
+use croncheck_command::words::{Call, LOCAL};
 use croncheck_planner::planner::page::PagePlanner;
 use croncheck_planner::planner::{ClockNames, Planner};
 use croncheck_reading::files::tell_files;

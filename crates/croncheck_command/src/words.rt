@@ -52,8 +52,11 @@ pub const MOST_WIDTH: usize = 1_000;
 /// How many runs of a line are searched if none is told: the first one, for the days of its month that `either-day` tells.
 const CHECKED_RUNS: u32 = 1;
 
-/// The zone of a call that has none: no text of it depends on a clock.
-const NO_ZONE: &str = "UTC0";
+/// The word of a call for the zone of a machine.
+pub const LOCAL: &str = "local";
+
+/// UTC as a rule.
+const UTC: &str = "UTC0";
 
 /// How the word of a moment is written.
 const MOMENT_FORM: &str = "write 2024-10-27T00:00:00, 2024-10-27, @1729980000 or now";
@@ -79,7 +82,7 @@ const BESIDE_ROOT: &str =
 #[derive(Drop)]
 pub struct Call<'w> {
     pub verb: Verb,
-    /// `local`, a POSIX rule, or the name of a zone. UTC with [`Verb::Describe`].
+    /// `local`, a POSIX rule, or the name of a zone. UTC with [`Verb::Describe`], and of GitHub's patterns where none is given.
     pub zone: &'w str,
     /// The zone whose clock is shown too, if there is one; it is written as `zone` is. Not with [`Verb::Check`], [`Verb::Describe`], or the
     /// calendar of a plan.
@@ -285,7 +288,7 @@ fn call_of<'w>(alloc: Global, verb: Verb, matches: &ArgMatches<'w>) -> Result<Ca
     let plan = plan_asked(alloc, verb, matches)?;
     Ok(Call {
         verb,
-        zone: matches.get_str("zone").unwrap_or(NO_ZONE),
+        zone: zone(verb, matches),
         show_zone: matches.get_str("show-zone"),
         from,
         span,
@@ -620,6 +623,24 @@ fn language(matches: &ArgMatches<'_>) -> Tongue {
     match matches.get_str("language") {
         Some("sv") => Tongue::Swedish,
         _ => Tongue::English,
+    }
+}
+
+// The zone that is given; else that of what is asked.
+fn zone<'w>(verb: Verb, matches: &ArgMatches<'w>) -> &'w str {
+    match matches.get_str("zone") {
+        Some(word) => word,
+        None if is_of_utc(verb, matches) => UTC,
+        None => LOCAL,
+    }
+}
+
+// Whether what is asked is of UTC: no description depends on a clock, and GitHub runs its patterns by that one.
+fn is_of_utc(verb: Verb, matches: &ArgMatches<'_>) -> bool {
+    match verb {
+        Verb::Describe => true,
+        Verb::Next => matches.get_str("for") == Some("github"),
+        Verb::Check | Verb::Show | Verb::Plan => false,
     }
 }
 

@@ -272,11 +272,9 @@ fn with_clock<'w>(
     from: &'w str,
 ) -> Result<Command<'w>, AllocError> {
     command
-        .arg(
-            value(alloc, "zone", "NAME|RULE|local")
-                .default_value("local")
-                .help("The zone: by its name, as a POSIX rule, or the machine's"),
-        )?
+        .arg(value(alloc, "zone", "NAME|RULE|local").help(
+            "The zone: by its name, as a POSIX rule, or local, the machine's; else local, with next --for github UTC",
+        ))?
         .arg(
             value(alloc, "from", "DATETIME|DATE|@SECONDS|now")
                 .default_value("now")
