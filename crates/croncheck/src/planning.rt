@@ -25,7 +25,7 @@ use std::{env, io, str};
 /// The status if a file can't be read.
 const UNREAD: u8 = 3;
 
-/// What the calendar of a plan is called, and its page.
+/// What the calendar of a plan is called, and its page, if no word of the call says it.
 const TITLE: &str = "What cron starts";
 
 /// What the zone of this machine is called, and that of the machine that is checked, where it has no name.
@@ -170,7 +170,7 @@ fn write_calendar(
         return Err(Problem::Clock(NoClock::Outside));
     };
     let naming = Naming {
-        name: TITLE,
+        name: call.title.unwrap_or(TITLE),
         stamp,
         lasts,
     };
@@ -206,7 +206,8 @@ fn write_page(
         return Err(Problem::OutOfMemory);
     };
     let terms = kinds.of(Dialect::User);
-    let Ok(text) = taken.sink.form().page(&terms, TITLE, ignored.as_slice()) else {
+    let title = call.title.unwrap_or(TITLE);
+    let Ok(text) = taken.sink.form().page(&terms, title, ignored.as_slice()) else {
         return Err(Problem::OutOfMemory);
     };
     write_text(rt, call, text.as_str())?;

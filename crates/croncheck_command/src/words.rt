@@ -20,7 +20,7 @@ use croner_presets::Preset;
 use cronplan_forms::PlanAsked;
 use jiff::civil::Date;
 use options::{program, verb_of, verb_with, verbs_with};
-use planning::{output, plan_asked};
+use planning::{output, plan_asked, title};
 use std::alloc::{AllocError, Global};
 
 /// The last line of what is told if the words of a call are misused.
@@ -124,6 +124,8 @@ pub struct Call<'w> {
     pub plan: PlanAsked,
     /// The name of the file that a plan is written to, if it is asked for as a file and a name is given.
     pub output: Option<&'w str>,
+    /// What the page or the calendar of a plan is called, if a name is given.
+    pub title: Option<&'w str>,
 }
 
 /// What is asked.
@@ -309,6 +311,7 @@ fn call_of<'w>(alloc: Global, verb: Verb, matches: &ArgMatches<'w>) -> Result<Ca
         patterns: named.patterns,
         plan,
         output: output(matches),
+        title: title(matches),
     })
 }
 

@@ -73,6 +73,7 @@ pub(super) fn verbs_with(option: &str) -> Option<&'static str> {
         | "--html"
         | "--output"
         | "--lasts"
+        | "--title"
         | "--most-a-day" => Some("plan"),
         "--json" => Some("check, show and plan"),
         "--strict" | "--same-job" | "--allow" | "--ignore" => Some("check and show"),
@@ -97,6 +98,7 @@ pub(super) fn verb_with(option: &str) -> &'static str {
         | "--html"
         | "--output"
         | "--lasts"
+        | "--title"
         | "--most-a-day" => "plan",
         _ => "show",
     }

@@ -80,20 +80,36 @@ fn file_of_plan(alloc: Global, matches: &ArgMatches<'_>) -> Result<Option<FileAs
         let lasts = length(alloc, matches, "lasts", "--lasts <LENGTH>")?;
         return Ok(Some(FileAsked::Calendar(lasts)));
     }
-    match output(matches) {
-        Some(name) => Err(told_of_misuse(
+    no_file(alloc, matches)
+}
+
+// No file is asked for: then a word that is of a file is refused.
+fn no_file(alloc: Global, matches: &ArgMatches<'_>) -> Result<Option<FileAsked>, NoCall> {
+    match (output(matches), title(matches)) {
+        (Some(name), _) => Err(told_of_misuse(
             alloc,
             "--output <FILE>",
             name,
             "it goes with --html, --ics or --json",
         )),
-        None => Ok(None),
+        (None, Some(text)) => Err(told_of_misuse(
+            alloc,
+            "--title <TEXT>",
+            text,
+            "it goes with --html or --ics",
+        )),
+        (None, None) => Ok(None),
     }
 }
 
 /// The name of the file that a plan is written to, if one is given.
 pub(super) fn output<'w>(matches: &ArgMatches<'w>) -> Option<&'w str> {
     matches.get_str("output")
+}
+
+/// What the page or the calendar of a plan is called, if a name is given.
+pub(super) fn title<'w>(matches: &ArgMatches<'w>) -> Option<&'w str> {
+    matches.get_str("title")
 }
 
 // The seconds of a length that the word of an option says.
@@ -203,6 +219,7 @@ fn with_files<'w>(alloc: Global, command: Command<'w>) -> Result<Command<'w>, Al
     let command = add(command, page(alloc))?;
     let command = add(command, json(alloc))?;
     let command = add(command, event_length(alloc))?;
+    let command = add(command, name(alloc))?;
     command.arg(value(alloc, "output", "FILE").help(
         "With --html, --ics or --json: writes it to this file, whole or not at all, and not to the output",
     ))
@@ -214,6 +231,14 @@ fn event_length<'w>(alloc: Global) -> Result<Arg<'w>, AllocError> {
         .requires_arg("ics")?;
     option_alone(arg)?
         .conflicts_with("html")?
+        .conflicts_with("json")
+}
+
+fn name<'w>(alloc: Global) -> Result<Arg<'w>, AllocError> {
+    value(alloc, "title", "TEXT")
+        .help(
+            "With --html or --ics: what the page or the calendar is called; else 'What cron starts'",
+        )
         .conflicts_with("json")
 }
 
