@@ -88,9 +88,18 @@ def begins_as_job(text):
     return text.startswith(b"@") or word == b"*" or bool(re.fullmatch(rb"[0-9*,/-]*[0-9][0-9*,/-]*", word))
 
 
+def after_doubled(command, sign):
+    """What follows a sign that stands twice, the first one of a command, where no quote stands before it."""
+    front, _, rest = command.partition(sign * 2)
+    return b"" if re.search(rb"[\"'`\\]", front) or sign in front else rest.lstrip(b" \t")
+
+
 def title_of_command(command):
-    """The last part of the path of the first word; nothing where it has an equals sign."""
-    word = re.split(rb"[ \t]", command.strip(b" \t"))[0]
+    """The last part of the path of the program's first word; nothing where it has an equals sign."""
+    command = command.strip(b" \t")
+    if re.split(rb"[ \t]", command)[0] in (b"cd", b"test", b"[", b"command"):
+        command = after_doubled(command, b"&") or after_doubled(command, b"|") or command
+    word = re.split(rb"[ \t]", command)[0]
     return b"" if b"=" in word else word.rpartition(b"/")[2] or word
 
 

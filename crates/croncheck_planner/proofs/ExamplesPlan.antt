@@ -80,6 +80,23 @@ by_its_path = refl
 by_its_first_word : title_of [] (of (codes "backup /srv")) ≡ codes "backup"
 by_its_first_word = refl
 
+-- what goes to a folder, or asks whether a program is to run, leads to it
+in_a_folder : title_of [] (of (codes "cd / && run-parts --report /etc/cron.hourly")) ≡ codes "run-parts"
+in_a_folder = refl
+
+if_there : title_of [] (of (codes "test -x /usr/sbin/anacron || { cd / && run-parts --report /etc/cron.daily; }")) ≡ codes "run-parts"
+if_there = refl
+
+else_run : title_of [] (of (codes "[ -d /run/systemd/system ] || /usr/sbin/scrub")) ≡ codes "scrub"
+else_run = refl
+
+-- but not behind a quote, nor by one sign alone
+behind_a_quote : title_of [] (of (codes "[ 'a && b' ] && c")) ≡ codes "["
+behind_a_quote = refl
+
+by_one_sign : title_of [] (of (codes "cd /srv & backup")) ≡ codes "cd"
+by_one_sign = refl
+
 a_folder : title_of [] (of (codes "/srv/")) ≡ codes "/srv/"
 a_folder = refl
 

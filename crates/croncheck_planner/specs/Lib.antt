@@ -5,4 +5,5 @@ pub mod PlanAnswers
 pub mod PlanFiles
 pub mod PlanList
 pub mod Planner
+pub mod Programs
 pub mod Titles

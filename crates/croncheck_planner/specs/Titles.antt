@@ -6,6 +6,7 @@ use Rattle.crontab.specs.Bytes.{front, is_digit, text_after, trim_end}
 use Rattle.crontab.specs.Line.{Line, Task, next, blank, comment, setting, job, pattern, refused}
 use Rattle.crontab.specs.Setting.{is_setting}
 use Rattle.croncheck_report.specs.Allowed.{list_in}
+use Rattle.croncheck_planner.specs.Programs.{or_text, program_of}
 
 -- ---- the comment above a job
 
@@ -76,11 +77,6 @@ heading (refused fault) line = Some []
 abbrev pub is_no_slash : ℕ → Bool
 is_no_slash b = not (b == 47)
 
--- a text, or another where there is none
-abbrev pub or_text : List ℕ → List ℕ → List ℕ
-or_text [] other = other
-or_text (b ∷ bs) other = b ∷ bs
-
 -- what stands after the last slash of a path; the whole where that is nothing
 abbrev pub last_part : List ℕ → List ℕ
 last_part path = or_text (drop (length path - suffix_len is_no_slash path) path) path
@@ -92,9 +88,9 @@ is_equals b = b == 61
 abbrev pub title_of_word : List ℕ → List ℕ
 title_of_word word = if list_any is_equals word then [] else last_part word
 
--- the same of a command's first word
+-- the same of the first word of a command's program
 abbrev pub title_of_command : List ℕ → List ℕ
-title_of_command command = title_of_word (front kinds.Word (text_after kinds.Blank command))
+title_of_command command = title_of_word (front kinds.Word (program_of (text_after kinds.Blank command)))
 
 -- the same, or a job's times where that is nothing
 abbrev pub title_of_job : Task → List ℕ

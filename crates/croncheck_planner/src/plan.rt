@@ -8,6 +8,7 @@ pub(crate) mod answers;
 pub(crate) mod beside;
 pub(crate) mod dropped;
 pub(crate) mod list;
+pub(crate) mod program;
 pub(crate) mod title;
 
 use croncheck_often::often::span_end;

@@ -5,6 +5,7 @@ ghost use Rattle.crontab.specs.Bytes.{is_digit};
 ghost use Rattle.crontab.specs.Entries.{entry_seen, job_seen};
 ghost use Rattle.croncheck_planner.specs.Titles.{is_hash, is_no_slash, is_of_field, is_lone, is_at, is_field, begins_as_job, names_fields, reads_as_line, title_text, without_hashes, comment_text, heading, heading_of_comment, is_equals, last_part, title_of_word, title_of_command, title_of_job, title_of};
 
+use crate::plan::program::program_of;
 use croncheck_report::allowed::comment::list_in;
 use crontab::bytes::{Kind, cut, is_digit, trim_end};
 use crontab::line::{Entry, Job, word};
@@ -150,7 +151,7 @@ fn is_hash(byte: u8) -> bool
 }
 
 /// The title of the job of a line. It is the title `above` the line, if there is one; else the last part of the path that is the first word
-/// of the command. If there is no command, or that word has a `=`, since a variable may be set to a password, it is the job's times. A
+/// of the command's program. If there is no command, or that word has a `=`, since a variable may be set to a password, it is the job's times. A
 /// pattern is its own title.
 pub(crate) fn title_of<'l>(above: &'l [u8], entry: &Entry<'l>) -> &'l [u8]
     ensures { result.now ≡ title_of above.now (entry_seen entry.now) }
@@ -176,12 +177,12 @@ fn title_of_job<'l>(job: &Job<'l>) -> &'l [u8]
     }
 }
 
-// The title of a job by its command's first word.
+// The title of a job by the first word of its command's program.
 fn title_of_command(command: &[u8]) -> &[u8]
     ensures { result.now ≡ title_of_command command.now }
 {
     let (_, text) = cut(command, Kind::Blank);
-    let (first, _) = word(text);
+    let (first, _) = word(program_of(text));
     title_of_word(first)
 }
 
