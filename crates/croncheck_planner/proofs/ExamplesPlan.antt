@@ -16,50 +16,62 @@ use Rattle.croncheck_planner.specs.PlanAnswers.{clock_head, unfollowed_text}
 use Rattle.croncheck_planner.specs.PlanList.{over_text, more_text, whose_by_kinds, line_text}
 use Rattle.croncheck_planner.specs.Planner.{label_text, above_at}
 use Rattle.croncheck_output.specs.Escaped.{shown_from}
-use Rattle.croncheck_planner.specs.Titles.{heading, title_of}
+use Rattle.croncheck_planner.specs.Titles.{heading, title_of, title_text}
 
 -- ---- titles
 
 a_comment : heading comment (codes "  ## nightly \t") ≡ Some (codes "nightly")
+unfolding title_text
 a_comment = refl
 
 an_empty_comment : heading comment (codes "#") ≡ Some []
+unfolding title_text
 an_empty_comment = refl
 
 -- a job that was taken out: its command may hold a password
 a_job_taken_out : heading comment (codes "#0 3 * * * mysqldump -phunter2 app") ≡ Some []
+unfolding title_text
 a_job_taken_out = refl
 
 one_of_each_minute : heading comment (codes "# */5 * * * * root poll --key hunter2") ≡ Some []
+unfolding title_text
 one_of_each_minute = refl
 
 one_by_a_nickname : heading comment (codes "## @daily sync --key hunter2") ≡ Some []
+unfolding title_text
 one_by_a_nickname = refl
 
 -- and so may a setting
 a_setting_taken_out : heading comment (codes "# PGPASSWORD=hunter2") ≡ Some []
+unfolding title_text
 a_setting_taken_out = refl
 
 a_setting_with_blanks : heading comment (codes "#MAILTO = ops") ≡ Some []
+unfolding title_text
 a_setting_with_blanks = refl
 
 -- a name is one word
 an_equals_sign_in_words : heading comment (codes "# runs if x=y") ≡ Some (codes "runs if x=y")
+unfolding title_text
 an_equals_sign_in_words = refl
 
 -- what names the fields is no title
 the_fields_named : heading comment (codes "# m h  dom mon dow   command") ≡ Some []
+unfolding title_text
 the_fields_named = refl
 
 -- a word with a letter, and a line of dashes, are no minutes
 a_time_of_the_day : heading comment (codes "# 3am: nightly") ≡ Some (codes "3am: nightly")
+unfolding title_text
 a_time_of_the_day = refl
 
 dashes : heading comment (codes "# -- nightly --") ≡ Some (codes "-- nightly --")
+unfolding title_text
 dashes = refl
 
 -- it leaves what stands above it
 what_is_allowed : heading comment (codes "# croncheck: allow gap") ≡ None
+unfolding title_text
 what_is_allowed = refl
 
 a_blank_line : heading blank [] ≡ Some []

@@ -52,7 +52,7 @@ abbrev pub names_fields : List ℕ → Bool
 names_fields text = is_lone 109 (front kinds.Word text) && is_lone 104 (front kinds.Word (next text))
 
 -- the text of a comment that neither reads as a line nor names the fields of one
-abbrev pub title_text : List ℕ → List ℕ
+unfoldable pub title_text : List ℕ → List ℕ
 title_text text = if reads_as_line text || names_fields text then [] else text
 
 -- the title that a comment gives to the next line: one that allows something leaves what stands above it

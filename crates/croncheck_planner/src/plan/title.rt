@@ -45,6 +45,7 @@ fn heading_of_comment(alloc: Global, line: &[u8]) -> Result<Option<Vec<u8>>, All
 }
 
 // A text that neither reads as a line nor names the fields of one; else nothing. A line that was taken out may hold a password.
+#[tactic(auto, unfolding(crate::specs::Titles::title_text))]
 fn title_text(text: &[u8]) -> &[u8]
     ensures { result.now ≡ title_text text.now }
 {
