@@ -24,6 +24,7 @@ module _ {W : Type 0} (ids₀ : List ℕ) (places₀ : List (Option W)) where
     pub front : kept ≤ place
     pub beside : length ids ≡ length places
     pub many : length places ≡ length places₀
+    pub full : length (entries_in (take kept ids) (take kept places)) ≡ kept
     pub entries : entries_in (take kept ids) (take kept places) ++ entries_in (drop place ids) (drop place places) ≡ entries_in ids₀ places₀
     pub ordered : IsStrictlySortedBy nat_cmp ids₀ → IsStrictlySortedBy nat_cmp (take kept ids ++ drop place ids)
     pub below : (n : ℕ) → AllByRecursion (λ id. id < n) ids₀ → AllByRecursion (λ id. id < n) (take kept ids ++ drop place ids)
@@ -44,6 +45,7 @@ module _ {W : Type 0} (ids₀ : List ℕ) (places₀ : List (Option W)) where
       front = let le = moves.front in omega (arith, le);
       beside = moves.beside;
       many = moves.many;
+      full = moves.full;
       entries =
           ap (λ es. entries_in (take kept ids) (take kept places) ++ es)
           (sym (ap₂ entries_in ids_from (drop_more places place None lt ∙ ap (λ p. p ∷ drop (place + 1) places) none)))
@@ -98,14 +100,18 @@ module _ {W : Type 0} (ids₀ : List ℕ) (places₀ : List (Option W)) where
       as_long : length places' ≡ length places
       as_long = length-set (set places kept (get_or places place None)) place (get_or places kept None) ∙ length-set places kept (get_or places place None)
 
+      front_entries : entries_in (take (kept + 1) ids') (take (kept + 1) places') ≡ entries_in (take kept ids) (take kept places) ++ (id, w) ∷ []
+      front_entries = ap₂ entries_in front_ids front_places ∙ entries_behind (take kept ids) (take kept places) (id ∷ []) (Some w ∷ []) fronts
+
       pub put_in_front : Moves (kept + 1) (place + 1) ids' places'
       put_in_front = record {
         front = let le = moves.front in omega (arith, le);
         beside = length-set ids kept id ∙ moves.beside ∙ sym as_long;
         many = as_long ∙ moves.many;
+        full = ap length front_entries ∙ length-append (entries_in (take kept ids) (take kept places)) ((id, w) ∷ []) ∙ ap (λ n. n + 1) moves.full;
         entries =
             ap₂ (λ a b. a ++ b)
-            (ap₂ entries_in front_ids front_places ∙ entries_behind (take kept ids) (take kept places) (id ∷ []) (Some w ∷ []) fronts)
+            front_entries
             (ap₂ entries_in rest_ids rest_places)
             ∙ append_assoc (entries_in (take kept ids) (take kept places)) ((id, w) ∷ []) (entries_in (drop (place + 1) ids) (drop (place + 1) places))
             ∙ ap (λ es. entries_in (take kept ids) (take kept places) ++ es)
@@ -142,6 +148,11 @@ module _ {W : Type 0} (ids₀ : List ℕ) (places₀ : List (Option W)) where
         ordered = λ o. subst (λ r. IsStrictlySortedBy nat_cmp r) (ap (λ r. take kept ids ++ r) no_ids ∙ append-nil (take kept ids)) (moves.ordered o);
         below = λ n b. subst (λ r. AllByRecursion (λ x. x < n) r) (ap (λ r. take kept ids ++ r) no_ids ∙ append-nil (take kept ids)) (moves.below n b);
       }
+
+  -- and no place is empty
+  pub all_full : (kept place : ℕ) (ids : List ℕ) (places : List (Option W)) → Moves kept place ids places → place ≡ length places
+      → length (take kept places) ≡ length (entries_in (take kept ids) (take kept places))
+  all_full kept place ids places moves end = length-take-le kept places (let le = moves.front in omega (arith, le, end)) ∙ sym moves.full
 
 module _ {W : Type 0} {ids ids' : List ℕ} {places places' : List (Option W)} (count next_id : ℕ) where
   pub places_of : ids' ≡ ids → places' ≡ places → ArePlaces ids places count next_id → ArePlaces ids' places' count next_id

@@ -1,5 +1,5 @@
 //! The jobs by their ids.
-ghost use Rattle.std.specs.Prelude.{◌≡◌, ◌≤◌, ◌<◌, ◌+◌, ◌-◌, ◌^◌, min, max, [], ℕ, length, is_some, option_map, vec_len, vec_capacity, slice_index_or, IfOk, IfErr, IfSome, IfNone, OnOk, OnErr, Some, None, false, cond, if◌then◌else◌};
+ghost use Rattle.std.specs.Prelude.{◌≡◌, ◌⊎◌, ◌≤◌, ◌<◌, ◌+◌, ◌-◌, ◌^◌, min, max, [], ℕ, length, is_some, option_map, vec_len, vec_capacity, slice_index_or, IfOk, IfErr, IfSome, IfNone, OnOk, OnErr, Some, None, false, cond, if◌then◌else◌};
 ghost use Rattle.std.specs.BTreeMap.{is_at};
 ghost use Rattle.std.specs.List.{AllByRecursion};
 ghost use Rattle.std.specs.List.Sorted.{IsStrictlySortedBy};
@@ -9,7 +9,7 @@ ghost use Rattle.std.specs.Ordering.{nat_cmp};
 ghost use Rattle.croner_scheduler.specs.Ids.{job_of};
 ghost use Rattle.croner_scheduler.specs.Private.Places.{entries_in, AreInRow, PutsInFront};
 ghost use Rattle.croner_scheduler.specs.Private.Steps.{jobs_with, job_at_position, job_standing_at, job_with_next, is_awaited_at, ArePartsOf};
-ghost use Rattle.croner_scheduler.specs.Room.{row_room};
+ghost use Rattle.croner_scheduler.specs.Room.{row_room, FewGone};
 
 use crate::iter::Iter;
 use crate::room::{has_many_gone, room_besides};
@@ -291,6 +291,7 @@ fn make_room<J: Drop, T: Drop>(
     ensures room { OnOk result ((vec_len ids.new < vec_capacity ids.new) × (vec_len places.new < vec_capacity places.new)) }
     ensures no_less { min (row_room ids.old) (row_room places.old) ≤ min (row_room ids.new) (row_room places.new) }
     ensures full { OnErr result (min (row_room ids.old) (row_room places.old) ≡ 0) }
+    ensures few_gone { count ≡ length (entries_in ids.old.items places.old.items) → (vec_len places.old < vec_capacity places.old) ⊎ FewGone (vec_len places.new) count }
 {
     thin_out(ids, places, count);
     take_room(ids)?;
@@ -307,6 +308,7 @@ fn thin_out<J: Drop, T: Drop>(
     requires { length ids.old.items ≡ length places.old.items }
     ensures row { AreInRow ids.old.items places.old.items ids.new.items places.new.items }
     ensures no_less { min (row_room ids.old) (row_room places.old) ≤ min (row_room ids.new) (row_room places.new) }
+    ensures few_gone { count ≡ length (entries_in ids.old.items places.old.items) → (vec_len places.old < vec_capacity places.old) ⊎ FewGone (vec_len places.new) count }
 {
     if has_many_gone(places.len(), places.capacity(), count) {
         take_out_empty(ids, places);
@@ -336,7 +338,8 @@ fn take_room<X>(items: &mut Vec<X>) -> Result<(), AllocError>
 // Takes out the empty places.
 fn take_out_empty<J: Drop, T: Drop>(ids: &mut Vec<u64>, places: &mut Vec<Option<Waiting<J, T>>>)
     requires { length ids.old.items ≡ length places.old.items }
-    ensures { AreInRow ids.old.items places.old.items ids.new.items places.new.items }
+    ensures row { AreInRow ids.old.items places.old.items ids.new.items places.new.items }
+    ensures full { length places.new.items ≡ length (entries_in ids.new.items places.new.items) }
 {
     let mut kept = 0;
     for place in 0..places.len() {

@@ -1,5 +1,6 @@
 //! How much room is taken for jobs and turns to come, and when that of those that are gone is used again.
-ghost use Rattle.std.specs.Prelude.{◌<◌, ◌≤◌, IsTrue};
+ghost use Rattle.std.specs.Prelude.{◌<◌, ◌≤◌, ◌⊎◌, IsTrue, IsFalse};
+ghost use Rattle.croner_scheduler.specs.Room.{FewGone};
 
 // Those that are gone are taken out where there is no room for one more, if an eighth of all is gone.
 const GONE_PART: usize = 8;
@@ -14,6 +15,7 @@ const LEAST_ROOM: usize = 4;
 pub(crate) fn has_many_gone(len: usize, capacity: usize, left: usize) -> bool
     ensures full { IsTrue result → capacity ≤ len }
     ensures left { IsTrue result → left ≤ len }
+    ensures few { IsFalse result → (len < capacity) ⊎ FewGone len left }
 {
     capacity <= len && left <= len - len / GONE_PART
 }

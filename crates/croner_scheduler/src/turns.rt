@@ -1,10 +1,10 @@
 //! The turns of the next runs: by their seconds, and at one second by the ids of their jobs.
-ghost use Rattle.std.specs.Prelude.{◌≡◌, ◌<◌, ◌≤◌, ◌+◌, ℕ, ℤ, length, max, true, false, cond, is_some, OnOk, OnErr};
+ghost use Rattle.std.specs.Prelude.{◌≡◌, ◌⊎◌, ◌<◌, ◌≤◌, ◌+◌, ℕ, ℤ, length, max, true, false, cond, is_some, OnOk, OnErr};
 ghost use Rattle.std.specs.BinaryHeap.{heap_items, heap_len, heap_capacity, IsHeap, KeepsHeap};
 ghost use Rattle.croner_scheduler.specs.Calls.{turn_of};
 ghost use Rattle.croner_scheduler.specs.Ids.{job_of};
 ghost use Rattle.croner_scheduler.specs.Private.Turns.{heap_cmp, has_turn, is_next_turn, top_of, IsFirstTurn, AreListed, AreListedBut, AreTurnsOf};
-ghost use Rattle.croner_scheduler.specs.Room.{heap_room};
+ghost use Rattle.croner_scheduler.specs.Room.{heap_room, FewGone};
 
 use crate::jobs::Jobs;
 use crate::room::{has_many_gone, room_besides};
@@ -74,6 +74,7 @@ pub(crate) fn make_room<J, T>(turns: &mut Turns, jobs: &Jobs<J, T>) -> Result<()
     ensures room { OnOk result (heap_len turns.new < heap_capacity turns.new) }
     ensures no_less { heap_room turns.old ≤ heap_room turns.new }
     ensures full { OnErr result (heap_room turns.old ≡ 0) }
+    ensures few_gone { (heap_len turns.old < heap_capacity turns.old) ⊎ FewGone (heap_len turns.new) (length jobs.now.entries) }
 {
     thin_out(turns, jobs);
     take_room(turns)
@@ -84,6 +85,7 @@ fn thin_out<J, T>(turns: &mut Turns, jobs: &Jobs<J, T>)
     requires { AreTurnsOf (job_of jobs.now) (heap_items turns.old) }
     ensures turns { AreTurnsOf (job_of jobs.now) (heap_items turns.new) }
     ensures no_less { heap_room turns.old ≤ heap_room turns.new }
+    ensures few_gone { (heap_len turns.old < heap_capacity turns.old) ⊎ FewGone (heap_len turns.new) (length jobs.now.entries) }
 {
     if has_many_gone(turns.len(), turns.capacity(), jobs.len()) {
         put_anew(turns, jobs);
@@ -94,6 +96,7 @@ fn thin_out<J, T>(turns: &mut Turns, jobs: &Jobs<J, T>)
 // Takes room for one more.
 fn take_room(turns: &mut Turns) -> Result<(), AllocError>
     ensures turns { heap_items turns.new ≡ heap_items turns.old }
+    ensures len { heap_len turns.new ≡ heap_len turns.old }
     ensures room { OnOk result (heap_len turns.new < heap_capacity turns.new) }
     ensures no_less { heap_room turns.old ≤ heap_room turns.new }
     ensures full { OnErr result (heap_room turns.old ≡ 0) }
@@ -109,6 +112,7 @@ fn put_anew<J, T>(turns: &mut Turns, jobs: &Jobs<J, T>)
     requires { length jobs.now.entries ≤ heap_capacity turns.old }
     ensures ordered { IsHeap heap_cmp (heap_items turns.new) }
     ensures listed { AreListed (job_of jobs.now) (heap_items turns.new) }
+    ensures few { heap_len turns.new ≤ length jobs.now.entries }
 {
     turns.clear();
     let mut left = jobs.iter();
@@ -137,6 +141,7 @@ pub(crate) fn settle<J, T>(turns: &mut Turns, jobs: &Jobs<J, T>)
     requires listed { AreListed (job_of jobs.now) (heap_items turns.old) }
     ensures turns { AreTurnsOf (job_of jobs.now) (heap_items turns.new) }
     ensures no_less { heap_room turns.old ≤ heap_room turns.new }
+    ensures no_more { heap_len turns.new ≤ heap_len turns.old }
 {
     while let Some(turn) = first_turn(turns) {
         if jobs.is_awaiting(turn) {

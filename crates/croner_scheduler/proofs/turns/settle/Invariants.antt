@@ -8,6 +8,7 @@ use Rattle.croner_scheduler.proofs.turns.settle.Given as goal
 abbrev pub invariant-loop-turn : goal.invariant-loop-turn
 invariant-loop-turn g l =
     IsHeap heap_cmp (heap_items l.turns) × AreListed (job_of l.fn.jobs) (heap_items l.turns) × (heap_room l.fn.turns ≤ heap_room l.turns)
+    × (heap_len l.turns ≤ heap_len l.fn.turns)
 
 abbrev pub decreases-loop-turn : goal.decreases-loop-turn
 decreases-loop-turn g l = heap_len l.turns
