@@ -19,7 +19,7 @@ _croncheck_options() {
     case $1 in
         check) printf '%s\n' "$clock -f --format $output $kinds --language --for $settings $look -h --help" ;;
         show) printf '%s\n' "$clock $span --previous --often --show-zone $output $kinds --language --for $settings $look -h --help" ;;
-        plan) printf '%s\n' "$clock $span --show-zone --commands --week --month --quiet --busy --together --ics --html --json --lasts --output --most-a-day $kinds $settings $look -h --help" ;;
+        plan) printf '%s\n' "$clock $span --show-zone --commands --week --month --quiet --busy --together --ics --html --json --lasts --title --output --most-a-day $kinds $settings $look -h --help" ;;
         next) printf '%s\n' "$clock $span --previous --often --show-zone --language --for $settings $look -h --help" ;;
         describe) printf '%s\n' "--language --for $settings $look -h --help" ;;
         *) printf '%s\n' "$clock -f --format $output $kinds --language --for $settings $look -h --help -V --version" ;;
@@ -38,7 +38,7 @@ _croncheck() {
     case $option in
         --zone | --show-zone) words="local UTC $(_croncheck_zones)" ;;
         --from | --until) words=now ;;
-        --runs | --previous | --stdin-name | --width | --quiet | --busy | --lasts) ;;
+        --runs | --previous | --stdin-name | --width | --quiet | --busy | --lasts | --title) ;;
         --most-a-day) words='all' ;;
         --output) return 0 ;;
         --root) compopt -o dirnames 2>/dev/null; return 0 ;;
