@@ -82,7 +82,8 @@ const BESIDE_ROOT: &str =
 #[derive(Drop)]
 pub struct Call<'w> {
     pub verb: Verb,
-    /// `local`, a POSIX rule, or the name of a zone. UTC with [`Verb::Describe`], and of GitHub's patterns where none is given.
+    /// `local`, a POSIX rule, or the name of a zone. UTC with [`Verb::Describe`], and with [`Verb::Next`] where GitHub's patterns are asked of
+    /// and none is given.
     pub zone: &'w str,
     /// The zone whose clock is shown too, if there is one; it is written as `zone` is. Not with [`Verb::Check`], [`Verb::Describe`], or the
     /// calendar of a plan.

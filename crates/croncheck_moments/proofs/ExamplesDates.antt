@@ -9,7 +9,8 @@ use Rattle.jiff_core.specs.declared.civil.datetime.DateTime.{DateTime}
 use Rattle.jiff_tz.specs.Zone.{ambiguous_at, offset_at}
 use Rattle.jiff_tz.specs.declared.timezone.TimeZone.{TimeZone}
 use Rattle.jiff_tz.specs.declared.timezone.TimeZone.TheVariants.{UTC, Fixed}
-use Rattle.croncheck_moments.specs.Moment.{IsBegin, IsDateAt, IsEndOfMonth, IsEndOfWeek, shown_at}
+use Rattle.croncheck_moments.specs.declared.moment.Moment.TheVariants as moments
+use Rattle.croncheck_moments.specs.Moment.{IsBegin, IsDateAt, IsEndOfMonth, IsEndOfWeek, plan_from, shown_at, start_from}
 
 -- a date of the years 2027 and 2028
 abbrev of_2027 : (month : ℕ) → 1 ≤ month → month ≤ 12 → (day : ℕ) → 1 ≤ day → day ≤ days_in_month (pos 2_027) month → Date
@@ -119,3 +120,17 @@ to_the_29th =
       (refl, refl, refl),
       (march_1, record { follows = omega (arith, ints, days_of_2028); begins = begins_in_2028 }),
     )
+
+-- ---- the second after which runs come, and starts of a plan
+
+runs_after_a_time : start_from (moments.Civil (midnight march_26)) (pos 100) ≡ pos 100
+runs_after_a_time = refl
+
+a_plan_from_a_time_on : plan_from (moments.Civil (midnight march_26)) (pos 100) ≡ pos 99
+a_plan_from_a_time_on = refl
+
+a_plan_from_a_date_on : plan_from (moments.Date march_26) (pos 100) ≡ pos 99
+a_plan_from_a_date_on = refl
+
+a_plan_after_a_second : plan_from (moments.Second (pos 100)) (pos 100) ≡ pos 100
+a_plan_after_a_second = refl

@@ -11,7 +11,7 @@ const ROOM_PART: usize = 16;
 // And for so many besides, so that some room is taken where there are few.
 const LEAST_ROOM: usize = 4;
 
-// Whether those that are gone are to be taken out, of so many with room for so many, of which so many are left.
+// Of `len`, with room for `capacity`, these are `left`: whether the others, which are gone, are to be taken out.
 pub(crate) fn has_many_gone(len: usize, capacity: usize, left: usize) -> bool
     ensures full { IsTrue result → capacity ≤ len }
     ensures left { IsTrue result → left ≤ len }

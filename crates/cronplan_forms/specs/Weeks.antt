@@ -175,10 +175,11 @@ kind_text s = if is_put_forward s.change then forward_text s.expected s.shown el
 unfoldable pub starts_then : ℕ → List ℕ
 starts_then starts = codes "; " ++ (starts_text starts ++ codes " then\n")
 
--- a change as a line
+-- the end of a change's line: that count, where the clock is put forward
 abbrev pub end_of_change : ShownChange → List ℕ
 end_of_change s = if is_put_forward s.change then starts_then s.starts else codes "\n"
 
+-- a change as a line
 unfoldable pub change_line : ShownChange → List ℕ
 change_line s = kind_text s ++ end_of_change s
 

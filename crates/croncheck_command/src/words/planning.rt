@@ -11,7 +11,7 @@ use std::alloc::{AllocError, Global};
 const MOST_A_DAY: u64 = 12;
 
 /// The option for that.
-const MOST: &str = "--most-a-day <N|all>";
+const MOST_A_DAY_OPTION: &str = "--most-a-day <N|all>";
 
 /// The word for jobs that start however often.
 const ALL: &str = "all";
@@ -48,7 +48,7 @@ pub(super) fn plan_asked(
         Some(word) if asked.questions.is_none() && asked.file.is_none() => {
             Err(told_of_misuse(
                 alloc,
-                MOST,
+                MOST_A_DAY_OPTION,
                 word,
                 "a list has all starts: it goes with the other forms, as --week",
             ))
@@ -150,7 +150,7 @@ fn most_a_day(alloc: Global, matches: &ArgMatches<'_>) -> Result<Option<u64>, No
         Some(ALL) => Ok(None),
         Some(word) => match word.parse::<u64>() {
             Ok(most) => Ok(Some(most)),
-            Err(_) => Err(told_of_misuse(alloc, MOST, word, "write a number, or all")),
+            Err(_) => Err(told_of_misuse(alloc, MOST_A_DAY_OPTION, word, "write a number, or all")),
         },
         None => Ok(Some(MOST_A_DAY)),
     }

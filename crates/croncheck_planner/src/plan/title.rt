@@ -13,7 +13,8 @@ use crontab::setting::is_setting;
 use std::alloc::{AllocError, Global};
 
 /// The title that a line gives to the next one: the text of a comment, or an empty one if the line isn't a comment, or is one that reads as
-/// a setting, begins as a job does or names the fields of a job. `None` for a comment that allows something: it leaves the title of the comment above it.
+/// a setting, begins as a job does or names the fields of a job. `None` for a comment that allows something: it leaves the title of the
+/// comment above it.
 ///
 /// The only error is lack of memory.
 pub(crate) fn heading_of(
@@ -152,8 +153,8 @@ fn is_hash(byte: u8) -> bool
 }
 
 /// The title of the job of a line. It is the title `above` the line, if there is one; else the last part of the path that is the first word
-/// of the command's program. If there is no command, or that word has a `=`, since a variable may be set to a password, it is the job's times. A
-/// pattern is its own title.
+/// of the command's program. If there is no command, or that word has a `=`, since a variable may be set to a password, it is the job's
+/// times. A pattern is its own title.
 pub(crate) fn title_of<'l>(above: &'l [u8], entry: &Entry<'l>) -> &'l [u8]
     ensures { result.now ≡ title_of above.now (entry_seen entry.now) }
 {
