@@ -1,7 +1,9 @@
 -- Rows: the jobs of places, and how empty places are taken out.
 use Rattle.std.specs.Prelude.{◌≡◌, refl, ℕ, [], ◌∷◌, List, Option, Some, None}
+use Rattle.std.proofs.Common.{arith}
 use Rattle.croner_scheduler.specs.Ids.{ById, job_of}
-use Rattle.croner_scheduler.specs.Private.Places.{entries_in, PutsInFront}
+use Rattle.croner_scheduler.specs.Private.Places.{entries_in, ids_of, id_room, PutsInFront}
+use Rattle.croner_scheduler.specs.Room.{FewGone}
 
 -- the ids 3, 4 and 7, of which 4 was removed
 places : List (Option ℕ)
@@ -31,3 +33,17 @@ put_in_front = (refl, refl, refl)
 left : PutsInFront (3 ∷ 4 ∷ 7 ∷ []) places 1 1 (3 ∷ 4 ∷ 7 ∷ []) places 1
 unfolding places
 left = (refl, refl, refl)
+
+-- the ids 3 and 4, before 5, aren't listed, and there is room for more than a program can have
+ids_that_follow_one_another : ids_of {Z = ℕ} 3 5 None ≡ 3 ∷ 4 ∷ []
+ids_that_follow_one_another = refl
+
+room_for_ids_that_are_not_listed : id_room {Z = ℕ} None ≡ 18446744073709551615
+room_for_ids_that_are_not_listed = refl
+
+-- of 16, two may be gone, and not three
+two_of_sixteen_gone : FewGone 16 14
+two_of_sixteen_gone = omega arith
+
+three_of_sixteen_gone : ¬ (FewGone 16 13)
+three_of_sixteen_gone few = omega (arith, few)

@@ -1,4 +1,5 @@
-pub mod Ids
+pub mod SameIds
+pub mod FollowingIds
 pub mod Places
 pub mod TakenOut
 pub mod Rooms

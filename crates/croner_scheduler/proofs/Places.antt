@@ -9,7 +9,7 @@ use Rattle.std.specs.List.{AllByRecursion}
 use Rattle.std.specs.List.Sorted.{IsStrictlySortedBy, IsBinarySearchResult}
 use Rattle.std.specs.Map.{keys_of, lookup}
 use Rattle.std.specs.Ordering.{MatchOrdering}
-use Rattle.croner_scheduler.proofs.Ids.{own_id, other_id, each}
+use Rattle.croner_scheduler.proofs.SameIds.{own_id, other_id, each}
 use Rattle.croner_scheduler.specs.Private.Places.{entries_in, ArePlaces}
 
 -- ---- ids that rise
@@ -59,14 +59,6 @@ none_from ids n k below le =
 
 others_above : (id : ℕ) (ids : List ℕ) → AllByRecursion (λ other. nat_cmp id other ≡ Less) ids → AllByRecursion (λ other. is_at (nat_cmp id) other ≡ false) ids
 others_above id = all_by (λ other. nat_cmp id other ≡ Less) (λ other. is_at (nat_cmp id) other ≡ false) (λ other e. ap is_eq e)
-
--- what was found in a slice of the ids was found in them
-pub found_in : (ids ids' : List ℕ) (place id : ℕ) → ids' ≡ ids → (place < length ids') × (get_or ids' place 0 ≡ id) → (place < length ids) × (get_or ids place 0 ≡ id)
-found_in ids ids' place id same found = subst (λ i. (place < length i) × (get_or i place 0 ≡ id)) same found
-
-pub none_in : (ids ids' : List ℕ) (id : ℕ) → ids' ≡ ids → (IsStrictlySortedBy nat_cmp ids' → AllByRecursion (λ other. is_at (nat_cmp id) other ≡ false) ids')
-    → IsStrictlySortedBy nat_cmp ids → AllByRecursion (λ other. is_at (nat_cmp id) other ≡ false) ids
-none_in ids ids' id same none = subst (λ i. IsStrictlySortedBy nat_cmp i → AllByRecursion (λ other. is_at (nat_cmp id) other ≡ false) i) same none
 
 apart_back : (x y : ℕ) → is_at (nat_cmp x) y ≡ false → is_at (nat_cmp y) x ≡ false
 apart_back x y apart = other_id y x (λ same. false≢true (sym apart ∙ subst (λ z. is_at (nat_cmp x) z ≡ true) same (own_id x)))

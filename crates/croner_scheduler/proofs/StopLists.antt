@@ -8,7 +8,7 @@ use Rattle.std.specs.Option.{option_and_then}
 use Rattle.std.specs.Ordering.{nat_cmp, is_eq}
 use Rattle.std.specs.declared.cmp.Ordering.TheVariants.{Less}
 use mathlib.Core.List.{List, [], ◌∷◌}
-use Rattle.croner_scheduler.proofs.Ids.{same_id}
+use Rattle.croner_scheduler.proofs.SameIds.{same_id}
 
 -- an id is none of the higher ones
 none_higher : {X : Type 0} (x : ℕ) (es : List (ℕ × X)) → AllByRecursion (λ y. nat_cmp x y ≡ Less) (keys_of es) → lookup (is_at (nat_cmp x)) es ≡ None

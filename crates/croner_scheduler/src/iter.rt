@@ -4,6 +4,7 @@ ghost use Rattle.std.specs.Map.Iter.{TakesFirst};
 ghost use Rattle.std.specs.Prelude.{length};
 ghost use Rattle.croner_scheduler.specs.Ids.{entry_of};
 
+use crate::ids::IdsIter;
 use crate::waiting::Waiting;
 use std::iter::FusedIterator;
 use std::marker::Model;
@@ -12,7 +13,7 @@ use std::slice;
 /// The jobs of a scheduler with their ids, in the order of the ids ([`Scheduler::iter`](crate::Scheduler::iter)).
 #[derive(Drop)]
 pub struct Iter<'a, J, T> {
-    pub(crate) ids: slice::Iter<'a, u64>,
+    pub(crate) ids: IdsIter<'a>,
     pub(crate) places: slice::Iter<'a, Option<Waiting<J, T>>>,
 }
 
@@ -25,7 +26,7 @@ impl<'a, J, T> Model for Iter<'a, J, T> {
 
     ghost Value = { List (ℕ × Waiting J T) };
 
-    ghost view = { λ a. entries_in (iter_rest a.ids) (iter_rest a.places) };
+    ghost view = { λ a. entries_in a.ids (iter_rest a.places) };
 }
 
 impl<'a, J, T> Iterator for Iter<'a, J, T> {
@@ -39,7 +40,7 @@ impl<'a, J, T> Iterator for Iter<'a, J, T> {
         while let Some(id) = self.ids.next() {
             let place = self.places.next()?;
             if let Some(waiting) = place {
-                return Some((*id, waiting));
+                return Some((id, waiting));
             }
         }
         None

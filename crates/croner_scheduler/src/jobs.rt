@@ -1,7 +1,6 @@
 //! The jobs by their ids.
-ghost use Rattle.std.specs.Prelude.{◌≡◌, ◌⊎◌, ◌≤◌, ◌<◌, ◌+◌, ◌-◌, ◌^◌, min, max, [], ℕ, length, is_some, option_map, vec_len, vec_capacity, slice_index_or, IfOk, IfErr, IfSome, IfNone, OnOk, OnErr, Some, None, false, cond, if◌then◌else◌};
+ghost use Rattle.std.specs.Prelude.{◌≡◌, ◌⊎◌, ◌≤◌, ◌<◌, ◌+◌, ◌-◌, ◌^◌, min, max, [], ℕ, length, is_some, option_map, vec_len, vec_capacity, IfOk, IfErr, OnOk, OnErr, Some, None, cond, if◌then◌else◌};
 ghost use Rattle.std.specs.BTreeMap.{is_at};
-ghost use Rattle.std.specs.List.{AllByRecursion};
 ghost use Rattle.std.specs.List.Sorted.{IsStrictlySortedBy};
 ghost use Rattle.std.specs.Map.{keys_of};
 ghost use Rattle.std.specs.Option.{option_copied};
@@ -11,8 +10,9 @@ ghost use Rattle.croner_scheduler.specs.Private.Places.{entries_in, AreInRow, Pu
 ghost use Rattle.croner_scheduler.specs.Private.Steps.{jobs_with, job_at_position, job_standing_at, job_with_next, is_awaited_at, ArePartsOf};
 ghost use Rattle.croner_scheduler.specs.Room.{row_room, FewGone};
 
+use crate::ids::Ids;
 use crate::iter::Iter;
-use crate::room::{has_many_gone, room_besides};
+use crate::room::{has_many_gone, room_in, take_room};
 use crate::turns::Turn;
 use crate::waiting::{Next, Waiting};
 use std::alloc::{AllocError, Global};
@@ -24,10 +24,9 @@ use std::mem;
 // the same however many there are.
 #[derive(Drop)]
 pub(crate) struct Jobs<J, T> {
-    ids: Vec<u64>,
+    ids: Ids,
     places: Vec<Option<Waiting<J, T>>>,
     count: usize,
-    next_id: u64,
 }
 
 impl<J, T> Model for Jobs<J, T> {
@@ -41,11 +40,11 @@ impl<J, T> Model for Jobs<J, T> {
 
     ghost view = { λ a. record {
       entries = entries_in a.ids.items a.places.items;
-      next_id = a.next_id;
-      room = min (row_room a.ids) (row_room a.places);
+      next_id = a.ids.next;
+      room = min a.ids.room (row_room a.places);
     } };
 
-    ghost invariant = { λ a. ArePlaces a.ids.items a.places.items a.count a.next_id };
+    ghost invariant = { λ a. ArePlaces a.ids.items a.places.items a.count a.ids.next };
 }
 
 impl<J, T> Jobs<J, T> {
@@ -55,10 +54,9 @@ impl<J, T> Jobs<J, T> {
         ensures next_id { result.next_id ≡ next_id }
     {
         Jobs {
-            ids: Vec::new(alloc),
+            ids: Ids::new(alloc, next_id),
             places: Vec::new(alloc),
             count: 0,
-            next_id,
         }
     }
 
@@ -74,14 +72,14 @@ impl<J, T> Jobs<J, T> {
         ensures next_id { result ≡ self.now.next_id }
         ensures unused { (id : ℕ) → result ≤ id → job_of self.now id ≡ None }
     {
-        self.next_id
+        self.ids.next()
     }
 
     // The job of an id.
     pub(crate) fn get(&self, id: u64) -> Option<&Waiting<J, T>>
         ensures { option_copied result ≡ job_of self.now id }
     {
-        match place_of(&self.ids, id) {
+        match self.ids.place_of(id) {
             Some(place) => self.places[place].as_ref(),
             None => None,
         }
@@ -127,11 +125,9 @@ impl<J, T> Jobs<J, T> {
         let Ok(()) = make_room(&mut self.ids, &mut self.places, self.count) else {
             return Err(waiting);
         };
-        let id = self.next_id;
-        self.ids.push_reserved(id);
+        let id = self.ids.push();
         self.places.push_reserved(Some(waiting));
         self.count += 1;
-        self.next_id = id + 1;
         Ok(id)
     }
 
@@ -140,7 +136,7 @@ impl<J, T> Jobs<J, T> {
         ensures room { result ≡ self.now.room }
         ensures fits { length self.now.entries + result < 2 ^ 64 }
     {
-        room_of(&self.ids).min(room_of(&self.places))
+        self.ids.room().min(room_in(&self.places))
     }
 
     // Takes room for so many more jobs.
@@ -150,7 +146,7 @@ impl<J, T> Jobs<J, T> {
         ensures taken { OnOk result (self.new.room ≡ max self.old.room additional) }
         ensures full { OnErr result (self.old.room < additional) }
     {
-        self.ids.reserve_exact(additional)?;
+        self.ids.reserve(additional)?;
         self.places.reserve_exact(additional)
     }
 
@@ -161,7 +157,7 @@ impl<J, T> Jobs<J, T> {
         ensures count { length self.new.entries + (if is_some result then 1 else 0) ≡ length self.old.entries }
         ensures next_id { self.new.next_id ≡ self.old.next_id }
     {
-        let place = place_of(&self.ids, id)?;
+        let place = self.ids.place_of(id)?;
         let waiting = self.places[place].take();
         self.count -= usize::from(waiting.is_some());
         waiting
@@ -175,7 +171,7 @@ impl<J, T> Jobs<J, T> {
         ensures count { length self.new.entries ≡ length self.old.entries }
         ensures next_id { self.new.next_id ≡ self.old.next_id }
     {
-        if let Some(place) = place_of(&self.ids, id) {
+        if let Some(place) = self.ids.place_of(id) {
             move_to(&mut self.places[place], position, next);
         }
     }
@@ -188,7 +184,7 @@ impl<J, T> Jobs<J, T> {
         ensures count { length self.new.entries ≡ length self.old.entries }
         ensures next_id { self.new.next_id ≡ self.old.next_id }
     {
-        if let Some(place) = place_of(&self.ids, id) {
+        if let Some(place) = self.ids.place_of(id) {
             move_before_next(&mut self.places[place], position);
         }
     }
@@ -199,7 +195,7 @@ impl<J, T> Jobs<J, T> {
         ensures count { length self.new.entries ≡ length self.old.entries }
         ensures next_id { self.new.next_id ≡ self.old.next_id }
     {
-        if let Some(place) = place_of(&self.ids, id) {
+        if let Some(place) = self.ids.place_of(id) {
             renew(&mut self.places[place], next);
         }
     }
@@ -218,7 +214,7 @@ impl<J, T> Jobs<J, T> {
         ensures count { length self.new.entries ≡ length self.old.entries }
         ensures next_id { self.new.next_id ≡ self.old.next_id }
     {
-        match place_of(&self.ids, id) {
+        match self.ids.place_of(id) {
             Some(place) => exchange(&mut self.places[place], other),
             None => Err(other),
         }
@@ -263,76 +259,46 @@ fn exchange<J, T: Drop>(
     }
 }
 
-// The place of an id, of those that rise: its distance from the first id, where no place was taken out between the two.
-fn place_of(ids: &[u64], id: u64) -> Option<usize>
-    ensures found { IfSome result (λ place. (place < length ids.now) × (slice_index_or ids.now place 0 ≡ id)) }
-    ensures none { IfNone result (IsStrictlySortedBy nat_cmp ids.now → AllByRecursion (λ other. is_at (nat_cmp id) other ≡ false) ids.now) }
-{
-    if let Some(first) = ids.first() {
-        let guess = id.saturating_sub(*first) as usize;
-        if guess < ids.len() && ids[guess] == id {
-            return Some(guess);
-        }
-    }
-    match ids.binary_search(&id) {
-        Ok(place) => Some(place),
-        Err(_) => None,
-    }
-}
-
 // Makes room for one more place.
 fn make_room<J: Drop, T: Drop>(
-    ids: &mut Vec<u64>,
+    ids: &mut Ids,
     places: &mut Vec<Option<Waiting<J, T>>>,
     count: usize,
 ) -> Result<(), AllocError>
     requires { length ids.old.items ≡ length places.old.items }
     ensures kept { AreInRow ids.old.items places.old.items ids.new.items places.new.items }
-    ensures room { OnOk result ((vec_len ids.new < vec_capacity ids.new) × (vec_len places.new < vec_capacity places.new)) }
-    ensures no_less { min (row_room ids.old) (row_room places.old) ≤ min (row_room ids.new) (row_room places.new) }
-    ensures full { OnErr result (min (row_room ids.old) (row_room places.old) ≡ 0) }
-    ensures few_gone { count ≡ length (entries_in ids.old.items places.old.items) → (vec_len places.old < vec_capacity places.old) ⊎ FewGone (vec_len places.new) count }
+    ensures next_id { ids.new.next ≡ ids.old.next }
+    ensures room { OnOk result ((0 < ids.new.room) × (vec_len places.new < vec_capacity places.new)) }
+    ensures no_less { min ids.old.room (row_room places.old) ≤ min ids.new.room (row_room places.new) }
+    ensures full { OnErr result (min ids.old.room (row_room places.old) ≡ 0) }
+    ensures few_gone { OnOk result (count ≡ length (entries_in ids.old.items places.old.items) → (vec_len places.old < vec_capacity places.old) ⊎ FewGone (vec_len places.new) count) }
 {
-    thin_out(ids, places, count);
-    take_room(ids)?;
+    thin_out(ids, places, count)?;
+    ids.take_room()?;
     take_room(places)
 }
 
-// Takes out the empty places where there is no room for another and an eighth of the places is empty.
+// Takes out the empty places where there is no room for another and an eighth of the places is empty. The ids are listed then, for which
+// memory may lack.
 #[tactic(auto, using(crate::proofs::TakenOut::same_row))]
 fn thin_out<J: Drop, T: Drop>(
-    ids: &mut Vec<u64>,
+    ids: &mut Ids,
     places: &mut Vec<Option<Waiting<J, T>>>,
     count: usize,
-)
+) -> Result<(), AllocError>
     requires { length ids.old.items ≡ length places.old.items }
     ensures row { AreInRow ids.old.items places.old.items ids.new.items places.new.items }
-    ensures no_less { min (row_room ids.old) (row_room places.old) ≤ min (row_room ids.new) (row_room places.new) }
-    ensures few_gone { count ≡ length (entries_in ids.old.items places.old.items) → (vec_len places.old < vec_capacity places.old) ⊎ FewGone (vec_len places.new) count }
+    ensures next_id { ids.new.next ≡ ids.old.next }
+    ensures no_less { min ids.old.room (row_room places.old) ≤ min ids.new.room (row_room places.new) }
+    ensures full { OnErr result (min ids.old.room (row_room places.old) ≡ 0) }
+    ensures few_gone { OnOk result (count ≡ length (entries_in ids.old.items places.old.items) → (vec_len places.old < vec_capacity places.old) ⊎ FewGone (vec_len places.new) count) }
 {
     if has_many_gone(places.len(), places.capacity(), count) {
-        take_out_empty(ids, places);
+        let mut listed = ids.take_list()?;
+        take_out_empty(&mut listed, places);
+        ids.put_list(listed);
     }
-}
-
-// For how many more there is room.
-fn room_of<X>(items: &Vec<X>) -> usize
-    ensures { result ≡ row_room items.now }
-{
-    items.capacity() - items.len()
-}
-
-// Takes room for one more.
-fn take_room<X>(items: &mut Vec<X>) -> Result<(), AllocError>
-    ensures items { items.new.items ≡ items.old.items }
-    ensures room { OnOk result (vec_len items.new < vec_capacity items.new) }
-    ensures no_less { row_room items.old ≤ row_room items.new }
-    ensures full { OnErr result (row_room items.old ≡ 0) }
-{
-    if items.len() < items.capacity() {
-        return Ok(());
-    }
-    items.reserve_exact(room_besides(items.len()))
+    Ok(())
 }
 
 // Takes out the empty places.

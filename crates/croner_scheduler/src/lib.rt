@@ -3,6 +3,7 @@
 
 mod add;
 mod again;
+mod ids;
 mod iter;
 mod jobs;
 mod latest;

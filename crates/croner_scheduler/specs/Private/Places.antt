@@ -1,8 +1,38 @@
 -- Jobs in places: each id that was given has one, and that of a removed job is empty. Private contracts alone cite these definitions.
-use Rattle.std.specs.Prelude.{◌≡◌, ◌<◌, ◌+◌, ℕ, Bool, true, false, is_some, List, [], ◌∷◌, length, slice_index_or, slice_set, Option, Some, None}
+use Rattle.std.specs.Prelude.{◌≡◌, ◌<◌, ◌+◌, ◌-◌, ◌^◌, ℕ, zero, suc, Bool, true, false, is_some, List, [], ◌∷◌, length, slice_index_or, slice_set, Option, Some, None}
 use Rattle.std.specs.List.{AllByRecursion, swap}
 use Rattle.std.specs.List.Sorted.{IsStrictlySortedBy}
 use Rattle.std.specs.Ordering.{nat_cmp}
+use Rattle.std.specs.Slice.Iter.{iter_rest}
+use Rattle.std.specs.declared.slice.Iter.{Iter}
+use Rattle.std.specs.declared.vec.Vec.{Vec}
+use Rattle.croner_scheduler.specs.Room.{row_room}
+
+-- so many ids, which follow one another
+abbrev pub ids_from : ℕ → ℕ → List ℕ
+ids_from first zero = []
+ids_from first (suc n) = first ∷ ids_from (first + 1) n
+
+-- ids, the next one, and for how many more there is room
+pub record IdRow : Type 0 where
+  pub items : List ℕ
+  pub next : ℕ
+  pub room : ℕ
+
+-- the ids: those from the first one up to the next, where they aren't listed
+abbrev pub ids_of : {Z : Type 0} → ℕ → ℕ → Option (Vec ℕ Z) → List ℕ
+ids_of first next None = ids_from first (next - first)
+ids_of first next (Some row) = row.items
+
+-- and there is room for any number of these
+abbrev pub id_room : {Z : Type 0} → Option (Vec ℕ Z) → ℕ
+id_room None = 2 ^ 64 - 1
+id_room (Some row) = row_room row
+
+-- the ids that an iterator has left
+abbrev pub ids_left : ℕ → ℕ → Option (Iter ℕ) → List ℕ
+ids_left first next None = ids_from first (next - first)
+ids_left first next (Some ids) = iter_rest ids
 
 -- the ids whose places hold a job, each with the job
 abbrev pub entries_in : {W : Type 0} → List ℕ → List (Option W) → List (ℕ × W)

@@ -5,7 +5,7 @@ use Rattle.croner_scheduler.proofs.iter.IterIterator.next.Given as goal
 
 abbrev pub invariant-loop-id : goal.invariant-loop-id
 invariant-loop-id g l =
-    entries_in (iter_rest l.self-inside.ids) (iter_rest l.self-inside.places) ≡ entries_in (iter_rest l.initial.self-inside.ids) (iter_rest l.initial.self-inside.places)
+    entries_in l.self-inside.ids (iter_rest l.self-inside.places) ≡ entries_in l.initial.self-inside.ids (iter_rest l.initial.self-inside.places)
 
 abbrev pub decreases-loop-id : goal.decreases-loop-id
-decreases-loop-id g l = length (iter_rest l.self-inside.ids)
+decreases-loop-id g l = length l.self-inside.ids

@@ -3,4 +3,4 @@ use Rattle.croner_scheduler.proofs.Places.{no_places}
 
 -- src/jobs.rt:47:5
 pub invariant_of-result : goal.invariant_of-result
-invariant_of-result g c = no_places _ _ c.args.next_id c.new.ensures.items c.new-2.ensures.items
+invariant_of-result g c = no_places _ _ c.new.result.next c.new.ensures.items c.new-2.ensures.items

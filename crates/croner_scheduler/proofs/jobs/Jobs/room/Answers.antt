@@ -7,5 +7,5 @@ pub returns-clause-fits : goal.returns-clause-fits
 returns-clause-fits g c =
     let self = c.self.inside in
     let le = no_more self.ids.items self.places.items in
-    let is : c.min.result ≡ min (row_room self.ids) (row_room self.places) = search rules in
-    subst (λ jobs. length jobs.entries + c.min.result < 2 ^ 64) c.self.view_is (omega (arith, le, is, self.ids.ok.0, self.ids.ok.1, self.ids.small))
+    let is : c.min.result ≡ min self.ids.room (row_room self.places) = search rules in
+    subst (λ jobs. length jobs.entries + c.min.result < 2 ^ 64) c.self.view_is (omega (arith, le, is, c.self.invariant.beside, self.places.ok.0, self.places.ok.1, self.places.small))
