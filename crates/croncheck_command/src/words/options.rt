@@ -275,7 +275,7 @@ fn with_clock<'w>(
 ) -> Result<Command<'w>, AllocError> {
     command
         .arg(value(alloc, "zone", "NAME|RULE|local").help(
-            "The zone: by its name, as a POSIX rule, or local, the machine's; else local, with next --for github UTC",
+            "The zone: by its name, as a POSIX rule, or local, the machine's; else local, with --for github UTC, unless crontabs are read too",
         ))?
         .arg(
             value(alloc, "from", "DATETIME|DATE|@SECONDS|now")
