@@ -3,7 +3,7 @@ use Rattle.std.proofs.Common.{◌≡◌, refl, true, false, ℕ, Bool, List, [],
 use Rattle.croner_presets.specs.declared.difference.Difference.TheVariants as differences
 use Rattle.croner_presets.specs.declared.preset.Preset.TheVariants as presets
 use Rattle.croncheck_warnings.specs.declared.warnings.Warning.TheVariants as warnings
-use Rattle.croncheck_findings.specs.Findings.{is_of_preset, finding_without_field, place_of, findings_of_line, findings_of_file, Said}
+use Rattle.croncheck_findings.specs.Findings.{is_of_preset, severity_of, finding_without_field, place_of, findings_of_line, findings_of_file, Said}
 use Rattle.croncheck_warnings.specs.Presets.{reading}
 use Rattle.std.specs.Prelude.{codes}
 use Rattle.croner.specs.declared.parser.fault.PatternField.TheVariants as fields

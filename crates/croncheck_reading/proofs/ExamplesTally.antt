@@ -11,7 +11,7 @@ use Rattle.croncheck_report.specs.declared.report.SettingReport.{SettingReport}
 use Rattle.croncheck_reading.specs.declared.tally.Tally.{Tally}
 use Rattle.croncheck_report.specs.FileSeen.{File, is_ignored, unread, with_line}
 use Rattle.croncheck_reading.specs.Files.{summary_of}
-use Rattle.croncheck_reading.specs.Tally.{none_counted, counted, added, is_too_many, with_file, status_of}
+use Rattle.croncheck_reading.specs.Tally.{none_counted, counted, counted_job, added, is_too_many, with_file, status_of}
 
 -- a tally of this many refused lines, and lines with a warning
 abbrev tally : ℕ → ℕ → Tally
@@ -82,6 +82,13 @@ a_second_at_line_10005 = refl
 
 a_plan_counts_none : (counted (tally 0 0) (reports.Setting (zone_found true) false)).warned ≡ 0
 a_plan_counts_none = refl
+
+-- a pattern that is read, and one that the program of `--for` refuses
+a_pattern : counted_job (tally 1 0) false ≡ record (tally 1 0) { lines = 20_001; jobs = 3 }
+a_pattern = refl
+
+a_pattern_refused_elsewhere : counted_job (tally 1 0) true ≡ record (tally 2 0) { lines = 20_001 }
+a_pattern_refused_elsewhere = refl
 
 -- ---- the status
 

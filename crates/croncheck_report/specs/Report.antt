@@ -1,5 +1,6 @@
 -- What a line is told. Source: this crate's documentation of `Report`.
 use Rattle.std.specs.Prelude.{◌≡◌, ◌⊎◌, ◌<◌, get_or, not, ◌||◌, ◌==◌, ℕ, ◌+◌, Bool, true, false, List, [], ◌++◌, length, map, Option, Some, None, option_map, is_some, Result, Ok, Err, string_bytes, IsUtf8, if◌then◌else◌}
+use Rattle.std.specs.List.{list_any}
 use Rattle.croner_base.specs.declared.errors.CronError.{CronError}
 use Rattle.croner_base.specs.declared.time.civil.CivilDateTime.{CivilDateTime}
 use Rattle.croner_base.specs.Civil.{wall_second, weekday_of_second}
@@ -45,7 +46,7 @@ use Rattle.croncheck_warnings.specs.declared.presets.Reading.{Reading}
 use Rattle.croncheck_warnings.specs.declared.warnings.Warning.TheVariants as warnings
 use Rattle.croncheck_warnings.specs.Presets.{AreReadings}
 use Rattle.croner_presets.specs.declared.preset.Preset.{Preset}
-use Rattle.croncheck_warnings.specs.Warnings.{fields_of_schedule, AreFieldsOfPattern, is_either_day, IsMonthOf, NamesDates, Subject, warnings_of}
+use Rattle.croncheck_warnings.specs.Warnings.{fields_of_schedule, AreFieldsOfPattern, is_either_day, IsMonthOf, NamesDates, Subject, warnings_of, is_refusal_elsewhere}
 
 -- ---- warnings
 
@@ -301,6 +302,12 @@ place_for (reports.Refused start end why) found = None
 -- it has none, whatever was found
 abbrev pub HasNoPlace : Report → Type 0
 HasNoPlace r = (found : Option (List ℕ × ℕ)) → earlier_of r ≡ place_for r found
+
+-- ---- patterns that another program refuses
+
+-- the program of a preset refuses the pattern, and that isn't allowed
+abbrev pub is_refused_elsewhere : JobReport → Bool
+is_refused_elsewhere j = list_any is_refusal_elsewhere j.warnings.items
 
 -- ---- lines with a warning
 

@@ -6,7 +6,7 @@ ghost use Rattle.crontab.specs.Content.{IsOutcome, IsOutcomeOfTimes, IsOutcomeOf
 ghost use Rattle.crontab.specs.Entries.{entry_seen, job_seen, times_seen};
 ghost use Rattle.croncheck_report.specs.declared.settings.Settings.{Settings as Made};
 ghost use Rattle.croncheck_report.specs.Allowed.{unknown_name_in};
-ghost use Rattle.croncheck_report.specs.Report.{IsReportOfJob, IsReportOfPattern, blanks_of, IsReportOfLine, IsReportOfComment, TellsChanges, subject_of, IsWarned, WarnsPattern, TellsDates, file_and_line, earlier_of, place_for, HasNoPlace, setting_found, is_setting_found, has_job_warnings, has_warnings, notes_of_job, notes_of_refusal, taken_of, notes_of_report, refused_user, IsReportBy, why_after_open_line, report_after_line};
+ghost use Rattle.croncheck_report.specs.Report.{IsReportOfJob, IsReportOfPattern, blanks_of, IsReportOfLine, IsReportOfComment, TellsChanges, subject_of, IsWarned, WarnsPattern, TellsDates, file_and_line, earlier_of, place_for, HasNoPlace, setting_found, is_setting_found, is_refused_elsewhere, has_job_warnings, has_warnings, notes_of_job, notes_of_refusal, taken_of, notes_of_report, refused_user, IsReportBy, why_after_open_line, report_after_line};
 ghost use Rattle.croncheck_warnings.specs.Users.{users_seen, is_unknown};
 ghost use Rattle.croncheck_warnings.specs.Starred.{is_starred};
 ghost use Rattle.croncheck_report.specs.Told.{TellsTiming};
@@ -182,6 +182,15 @@ impl Report<'_, '_> {
 }
 
 impl JobReport<'_, '_> {
+    /// Whether the program that patterns are read for refuses this one, and that isn't allowed.
+    pub fn is_refused_elsewhere(&self) -> bool
+        ensures { result ≡ is_refused_elsewhere self.now }
+    {
+        self.warnings
+            .iter()
+            .any(|warning| warning.is_refusal_elsewhere())
+    }
+
     /// Whether the job or the pattern has a warning.
     pub fn has_warnings(&self) -> bool
         ensures { result ≡ has_job_warnings self.now }

@@ -175,7 +175,7 @@ pub const RULES: [Rule; 55] = [
     },
     Rule {
         name: "preset",
-        text: "The program that patterns are read for (--for) reads the pattern otherwise.",
+        text: "The program that patterns are read for (--for) refuses the pattern, or reads it otherwise.",
     },
     Rule {
         name: "no-zone",

@@ -1,6 +1,6 @@
 //! The names of warnings, and what they say.
 ghost use Rattle.std.specs.Prelude.{◌≡◌};
-ghost use Rattle.croncheck_warnings.specs.Warnings.{field_of, warning_name, other_name};
+ghost use Rattle.croncheck_warnings.specs.Warnings.{field_of, warning_name, is_refusal_elsewhere, other_name};
 
 use super::sides::{Dates, Month};
 use super::{OtherWarning, Warning};
@@ -64,6 +64,17 @@ impl Warning {
             | Warning::CarriageReturn
             | Warning::EmptyItem
             | Warning::Preset(_) => None,
+        }
+    }
+
+    /// Whether it says that the program which patterns are read for refuses the pattern.
+    pub fn is_refusal_elsewhere(self) -> bool
+        ensures { result ≡ is_refusal_elsewhere self }
+    {
+        if let Warning::Preset(reading) = self {
+            reading.is_refusal()
+        } else {
+            false
         }
     }
 
