@@ -197,7 +197,8 @@ of_setting line w = finding_without_field severities.Warning (other_name w) (con
 abbrev pub findings_of_setting : List ℕ → SettingReport → List Found
 findings_of_setting line s =
     only_if s.is_hiding (of_setting line others.ControlByte)
-    ++ (only_if s.is_zone (of_setting line others.NoZone) ++ only_if s.is_not_expanded (of_setting line others.NotExpanded))
+    ++ (only_if s.is_zone (of_setting line others.NoZone)
+    ++ (only_if s.is_not_expanded (of_setting line others.NotExpanded) ++ only_if s.sends_no_mail (of_setting line others.NoMail)))
 
 -- what is found of a line with a report: nothing of a good one. Where it is refused that stands first, after it its notes, and what another
 -- program takes of it

@@ -314,6 +314,13 @@ fn push_setting(
         line,
         setting.is_not_expanded,
         OtherWarning::NotExpanded,
+    )?;
+    push_if(
+        alloc,
+        found,
+        line,
+        setting.sends_no_mail,
+        OtherWarning::NoMail,
     )
 }
 

@@ -19,7 +19,7 @@ tally refused warned = record { lines = 20_000; jobs = 2; refused = refused; war
 
 -- a setting of which nothing is found but that it says a zone elsewhere, if it does
 abbrev zone_found : Bool → SettingReport
-zone_found is_zone = record { is_zone = is_zone; is_not_expanded = false; is_hiding = false }
+zone_found is_zone = record { is_zone = is_zone; is_not_expanded = false; sends_no_mail = false; is_hiding = false }
 
 -- how many lines have a warning with this one after so many of a file, of which nothing else was seen
 abbrev warned_with : Dialect → ℕ → Line → Report → ℕ

@@ -39,6 +39,7 @@ use Rattle.croncheck_warnings.specs.declared.warnings.sides.Dates.{Dates}
 use Rattle.croncheck_report.specs.Allowed.{unknown_name_in}
 use Rattle.croncheck_changes.specs.Changes.{AreMeetings, none_met, are_warned}
 use Rattle.croncheck_warnings.specs.Hidden.{has_hidden}
+use Rattle.croncheck_warnings.specs.Mail.{names_no_address}
 use Rattle.croncheck_report.specs.Settings.{start_of}
 use Rattle.croncheck_report.specs.Told.{TellsMeaning, TellsTiming, cron_of, is_at_window_end, is_never, is_told_past, is_idle}
 use Rattle.croncheck_warnings.specs.Users.{users_seen, is_unknown, user_start, user_end}
@@ -232,12 +233,13 @@ abbrev pub setting_found : Bool → List ℕ → SettingReport
 setting_found is_zone line = record {
   is_zone = is_zone;
   is_not_expanded = is_not_expanded (text_after kinds.Blank line);
+  sends_no_mail = names_no_address (text_after kinds.Blank line);
   is_hiding = has_hidden (text_after kinds.Blank line);
 }
 
 -- any of these is found
 abbrev pub is_setting_found : SettingReport → Bool
-is_setting_found s = s.is_zone || (s.is_not_expanded || s.is_hiding)
+is_setting_found s = s.is_zone || (s.is_not_expanded || (s.sends_no_mail || s.is_hiding))
 
 -- ---- a line
 

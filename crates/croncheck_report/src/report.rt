@@ -17,6 +17,7 @@ use crate::settings::Settings;
 use crate::told::{Told, is_idle, told_of, told_of_crontab};
 use croncheck_changes::changes::meetings::Meetings;
 use croncheck_runs::runs::Runner;
+use croncheck_warnings::mail::names_no_address;
 use croncheck_warnings::presets::{Reading, readings_of};
 use croncheck_warnings::starred::is_starred;
 use croncheck_warnings::users::{Users, is_unknown, user_end, user_start};
@@ -86,6 +87,8 @@ pub struct SettingReport {
     pub is_zone: bool,
     /// The value has something that a shell would expand, and that cron takes as it stands.
     pub is_not_expanded: bool,
+    /// The variable is `MAILTO`, and the value is no address to which cron sends mail.
+    pub sends_no_mail: bool,
     /// The line has a byte that hides others.
     pub is_hiding: bool,
 }
@@ -95,7 +98,7 @@ impl SettingReport {
     pub fn is_found(self) -> bool
         ensures { result ≡ is_setting_found self }
     {
-        self.is_zone || self.is_not_expanded || self.is_hiding
+        self.is_zone || self.is_not_expanded || self.sends_no_mail || self.is_hiding
     }
 }
 
@@ -323,6 +326,7 @@ fn setting_of(is_zone: bool, line: &[u8]) -> SettingReport
     SettingReport {
         is_zone,
         is_not_expanded: is_not_expanded(text),
+        sends_no_mail: names_no_address(text),
         is_hiding: has_hidden(text),
     }
 }

@@ -388,6 +388,7 @@ other_name others.NoNewline = warning_name warnings.NoNewline
 other_name others.ControlByte = warning_name warnings.ControlByte
 other_name others.NoZone = codes "no-zone"
 other_name others.NotExpanded = codes "not-expanded"
+other_name others.NoMail = codes "no-mail"
 other_name others.ManyLines = codes "many-lines"
 
 -- the name of a field as warnings have it

@@ -8,7 +8,7 @@ pub struct Rule {
 }
 
 /// The rules of all findings.
-pub const RULES: [Rule; 55] = [
+pub const RULES: [Rule; 56] = [
     Rule {
         name: "nul",
         text: "The line has a byte 0, at which cron ends it.",
@@ -184,6 +184,10 @@ pub const RULES: [Rule; 55] = [
     Rule {
         name: "not-expanded",
         text: "Cron expands nothing in the value of a setting.",
+    },
+    Rule {
+        name: "no-mail",
+        text: "Cron sends no mail to what a setting names.",
     },
     Rule {
         name: "gap",

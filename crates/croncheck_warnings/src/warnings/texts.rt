@@ -116,6 +116,7 @@ impl OtherWarning {
             OtherWarning::ControlByte => Warning::ControlByte.name(),
             OtherWarning::NoZone => "no-zone",
             OtherWarning::NotExpanded => "not-expanded",
+            OtherWarning::NoMail => "no-mail",
             OtherWarning::ManyLines => "many-lines",
         }
     }
@@ -127,6 +128,7 @@ impl OtherWarning {
             OtherWarning::ControlByte => Warning::ControlByte.text(),
             OtherWarning::NoZone => NO_ZONE,
             OtherWarning::NotExpanded => NOT_EXPANDED,
+            OtherWarning::NoMail => NO_MAIL,
             OtherWarning::ManyLines => MANY_LINES,
         }
     }
@@ -237,6 +239,9 @@ const NO_ZONE: &str =
 
 const NOT_EXPANDED: &str =
     "Cron takes a value as it stands: it expands neither `$` nor `~`, and a comment after it is a part of it. Write the whole path, and put a comment on a line of its own.";
+
+const NO_MAIL: &str =
+    "Cron sends no mail where the value of `MAILTO` has a blank, a `<` or another sign than letters, digits and `@!:%-.,_+=/`, or doesn't begin with a letter or a digit. Write the address alone, as `ops@example.org`; several stand with commas between them, and no blanks.";
 
 const CARRIAGE_RETURN: &str =
     "The line ends with a carriage return, which becomes part of the command. Save the file with line feeds alone.";
