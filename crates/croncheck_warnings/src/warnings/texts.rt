@@ -184,7 +184,7 @@ fn push_days(text: &mut String, days: u32, length: u32) -> Result<(), AllocError
 }
 
 const EITHER_DAY: &str =
-    "The job runs on each day that the day of the month or the weekday names, not only where both do. For one of the two, write `*` for the other; for both, let the command test the second, as `[ $(date +\\%u) = 1 ] && ..` does for Monday. In a file of patterns (`--patterns`) `+` before the weekday does it; cron refuses that.";
+    "The job runs on each day that the day of the month or the weekday names, not only where both do. For one of the two, write `*` for the other; for both, let the command test the second, as `[ $(date +\\%u) = 1 ] && ..` does for Monday. In a pattern for croner (`--patterns` without `--for`) `+` before the weekday does it; cron and other programs don't know that.";
 
 const UNEVEN_STEP: &str =
     "The step is counted anew from the field's first value, so that from the last run of an hour, minute or day to the next it is shorter. Write a step that divides 60 (24 for hours).";
