@@ -30,6 +30,9 @@ const FAILED: u8 = 3;
 const NO_CRONTAB: &str =
     "no crontab, and not read: run-parts runs the scripts of such a folder, and anacron reads anacrontab";
 
+/// What is noted of a folder of which no file is read.
+const NO_FILE: &str = "this folder has no file to read";
+
 /// What is noted of a folder in a folder.
 const NOT_ENTERED: &str =
     "a folder in a folder, whose files are not read: name it to have them read";
@@ -154,7 +157,30 @@ fn folder_fails<'s, 't, S: Sources, F: Form, W: Write, N: Write>(
             return Ok(true);
         }
     };
-    any_fails(sources, kinds, file, names.as_slice(), sink, notes)
+    let before = sink.progress.files;
+    let is_failed = any_fails(sources, kinds, file, names.as_slice(), sink, notes)?;
+    note_if(
+        !is_failed && sink.progress.files == before,
+        kinds,
+        file.name,
+        NO_FILE,
+        notes,
+    )?;
+    Ok(is_failed)
+}
+
+// Notes something of a file, if it holds.
+fn note_if<N: Write>(
+    holds: bool,
+    kinds: &TermsByKind<'_, '_>,
+    name: &str,
+    text: &str,
+    notes: &mut N,
+) -> Result<(), AllocError> {
+    if holds {
+        note(kinds, name, text, notes)?;
+    }
+    Ok(())
 }
 
 // The names in a folder, in the order of their bytes.
