@@ -164,3 +164,11 @@ none_warned = refl
 some_warned : summary_of (tally 1 3) ≡ codes "2 jobs, 1 refused, 3 with warnings\n"
 unfolding digits
 some_warned = refl
+
+one_ignored : summary_of (record (tally 1 0) { ignored = 1 }) ≡ codes "2 jobs, 1 refused, 1 file ignored\n"
+unfolding digits
+one_ignored = refl
+
+some_ignored : summary_of (record (tally 1 3) { ignored = 2 }) ≡ codes "2 jobs, 1 refused, 3 with warnings, 2 files ignored\n"
+unfolding digits
+some_ignored = refl
