@@ -9,7 +9,7 @@ _croncheck_zones() {
 # The names of warnings that may be allowed.
 _croncheck_warnings() {
     printf '%s\n' 'either-day uneven-step step-beyond range-down passed-over large-number whole-hour short-months gone never no-command
-        looks-like-field user percent continued control-byte carriage-return empty-item other-name preset no-zone not-expanded gap twice same-job'
+        looks-like-field user percent continued control-byte carriage-return empty-item other-name preset no-zone not-expanded no-mail gap twice same-job'
 }
 
 # The options of a command; without one those of check.

@@ -631,7 +631,7 @@ def told_of(job, spans, start, until):
 
 ORDER = [
     "either-day", "uneven-step", "step-beyond", "range-down", "passed-over", "large-number", "whole-hour", "short-months", "gone", "never", "no-command", "looks-like-field", "user", "percent",
-    "continued", "control-byte", "no-newline", "no-zone", "not-expanded", "carriage-return", "empty-item", "other-name",
+    "continued", "control-byte", "no-newline", "no-zone", "not-expanded", "no-mail", "carriage-return", "empty-item", "other-name",
 ]
 # These stand after the others: what is told of a gap, and then what of a repeated range.
 CHANGES = ["gap", "twice"]
@@ -903,6 +903,15 @@ def is_not_expanded(value):
     return b"$" in value or any(path.startswith(b"~/") for path in paths) or (not is_quoted and re.search(rb"[ \t]#", value) is not None)
 
 
+def names_no_address(text):
+    """A setting of MAILTO, a name without quotes, whose value cron takes for no address: it has other bytes than an address, or another first one."""
+    value = value_in(text)
+    value = value[1:].split(value[:1])[0] if value[:1] in (b'"', b"'") else value
+    value = value.rstrip(SPACES)
+    is_mail = re.match(rb"[ \t]*MAILTO[ \t\n\v\f\r]*=", text) is not None
+    return is_mail and value != b"" and re.fullmatch(rb"[A-Za-z0-9][A-Za-z0-9@!:%.,_+=/-]*", value) is None
+
+
 def is_sixth_field(user, command):
     """A sixth field is taken for the user where the crontab is the system's, and else for the front of the command."""
     word = (re.split(rb"[ \t]", command)[0] if user is None else user).decode("latin-1").lower()
@@ -954,6 +963,7 @@ def warnings_of_line(text, is_fed, is_system, zone, start, users=None):
     if kind == "setting":
         found += ["no-zone"] if variable_of(text) in (b"CRON_TZ", b"TZ") else []
         found += ["not-expanded"] if is_not_expanded(value_in(text)) else []
+        found += ["no-mail"] if names_no_address(text) else []
         found += ["control-byte"] if hides(text) else []
     if kind == "job":
         words = [job.schedule] if job.schedule.startswith(b"@") else re.split(rb"[ \t]+", job.schedule)

@@ -1,7 +1,9 @@
 //! The words of a call.
 ghost use Rattle.std.specs.Prelude.{◌≡◌, ◌≤◌, IfOk};
 ghost use Rattle.croncheck_moments.specs.Moment.{moment_text, IsNamed};
-ghost use Rattle.croncheck_command.specs.Words.{IsInRange, AreInRange, TellsRuns};
+ghost use Rattle.std.specs.List.{list_all};
+ghost use Rattle.croncheck_files.specs.Names.{asked_seen, dialect_of};
+ghost use Rattle.croncheck_command.specs.Words.{IsInRange, AreInRange, TellsRuns, is_of_utc, is_of_patterns};
 
 mod options;
 mod planning;
@@ -18,6 +20,7 @@ use croncheck_report::settings::Tongue;
 use croner::parser::{CronParser, Seconds, Year};
 use croner_presets::Preset;
 use cronplan_forms::PlanAsked;
+use crontab::line::Dialect;
 use jiff::civil::Date;
 use options::{program, verb_of, verb_with, verbs_with};
 use planning::{output, plan_asked, title};
@@ -82,8 +85,8 @@ const BESIDE_ROOT: &str =
 #[derive(Drop)]
 pub struct Call<'w> {
     pub verb: Verb,
-    /// `local`, a POSIX rule, or the name of a zone. UTC with [`Verb::Describe`], and with [`Verb::Next`] where GitHub's patterns are asked of
-    /// and none is given.
+    /// `local`, a POSIX rule, or the name of a zone. UTC with [`Verb::Describe`], and where none is given and GitHub's patterns alone are asked
+    /// of.
     pub zone: &'w str,
     /// The zone whose clock is shown too, if there is one; it is written as `zone` is. Not with [`Verb::Check`], [`Verb::Describe`], or the
     /// calendar of a plan.
@@ -291,7 +294,7 @@ fn call_of<'w>(alloc: Global, verb: Verb, matches: &ArgMatches<'w>) -> Result<Ca
     let plan = plan_asked(alloc, verb, matches)?;
     Ok(Call {
         verb,
-        zone: zone(verb, matches),
+        zone: zone(verb, matches, named.files.as_slice()),
         show_zone: matches.get_str("show-zone"),
         from,
         span,
@@ -631,20 +634,44 @@ fn language(matches: &ArgMatches<'_>) -> Tongue {
 }
 
 // The zone that is given; else that of what is asked.
-fn zone<'w>(verb: Verb, matches: &ArgMatches<'w>) -> &'w str {
+fn zone<'w>(verb: Verb, matches: &ArgMatches<'w>, files: &[Asked<'w>]) -> &'w str {
     match matches.get_str("zone") {
         Some(word) => word,
-        None if is_of_utc(verb, matches) => UTC,
+        None if is_of_utc(verb, is_for_github(matches), are_patterns(files)) => UTC,
         None => LOCAL,
     }
 }
 
-// Whether what is asked is of UTC: no description depends on a clock, and GitHub runs its patterns by that one.
-fn is_of_utc(verb: Verb, matches: &ArgMatches<'_>) -> bool {
+fn is_for_github(matches: &ArgMatches<'_>) -> bool {
+    matches.get_str("for") == Some("github")
+}
+
+// Whether what is asked is of UTC: no description depends on a clock, and GitHub runs its patterns by that one. A crontab that is read
+// beside them is of the machine's zone.
+fn is_of_utc(verb: Verb, is_for_github: bool, are_patterns: bool) -> bool
+    ensures { result ≡ is_of_utc verb is_for_github are_patterns }
+{
     match verb {
         Verb::Describe => true,
-        Verb::Next => matches.get_str("for") == Some("github"),
-        Verb::Check | Verb::Show | Verb::Plan => false,
+        Verb::Next => is_for_github,
+        Verb::Check | Verb::Show => is_for_github && are_patterns,
+        Verb::Plan => false,
+    }
+}
+
+// Whether all of some files are of patterns.
+fn are_patterns(files: &[Asked<'_>]) -> bool
+    ensures { result ≡ list_all (λ file. is_of_patterns (dialect_of (asked_seen file))) files.now }
+{
+    files.iter().all(|file| is_of_patterns(file.dialect()))
+}
+
+fn is_of_patterns(dialect: Dialect) -> bool
+    ensures { result ≡ is_of_patterns dialect }
+{
+    match dialect {
+        Dialect::Patterns => true,
+        Dialect::User | Dialect::System => false,
     }
 }
 

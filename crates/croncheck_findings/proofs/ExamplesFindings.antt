@@ -3,7 +3,7 @@ use Rattle.std.proofs.Common.{◌≡◌, refl, true, false, ℕ, Bool, List, [],
 use Rattle.croner_presets.specs.declared.difference.Difference.TheVariants as differences
 use Rattle.croner_presets.specs.declared.preset.Preset.TheVariants as presets
 use Rattle.croncheck_warnings.specs.declared.warnings.Warning.TheVariants as warnings
-use Rattle.croncheck_findings.specs.Findings.{is_of_preset, finding_without_field, place_of, findings_of_line, findings_of_file, Said}
+use Rattle.croncheck_findings.specs.Findings.{is_of_preset, severity_of, finding_without_field, place_of, findings_of_line, findings_of_file, Said}
 use Rattle.croncheck_warnings.specs.Presets.{reading}
 use Rattle.std.specs.Prelude.{codes}
 use Rattle.croner.specs.declared.parser.fault.PatternField.TheVariants as fields
@@ -59,7 +59,7 @@ a_blank_line = refl
 
 -- a setting that says a zone or doesn't, and nothing else of which something is found
 abbrev setting_of : Bool → SettingReport
-setting_of is_zone = record { is_zone = is_zone; is_not_expanded = false; is_hiding = false }
+setting_of is_zone = record { is_zone = is_zone; is_not_expanded = false; sends_no_mail = false; is_hiding = false }
 
 a_zone : findings_of_line (codes " TZ=UTC") (reports.Setting (setting_of true) true) ≡ finding_without_field severities.Warning (codes "no-zone") (extent 1 7) ∷ []
 a_zone = refl
@@ -67,6 +67,18 @@ a_zone = refl
 -- a setting that changes no time, whose line feed is missing: that is found of the file
 a_setting : findings_of_line (codes "A=1") (reports.Setting (setting_of false) false) ≡ []
 a_setting = refl
+
+-- one of mail that isn't sent
+a_setting_of_mail : findings_of_line (codes "MAILTO=<ops>") (reports.Setting (record (setting_of false) { sends_no_mail = true }) true)
+    ≡ finding_without_field severities.Warning (codes "no-mail") (extent 0 12) ∷ []
+a_setting_of_mail = refl
+
+-- weekday 7, which Kubernetes refuses; two minutes fewer than five apart, which GitHub reads otherwise
+refused_by_the_program : severity_of (warnings.Preset (reading presets.Kubernetes differences.SundayAsSeven)) ≡ severities.Error
+refused_by_the_program = refl
+
+read_otherwise : severity_of (warnings.Preset (reading presets.Github differences.Frequent)) ≡ severities.Warning
+read_otherwise = refl
 
 -- minutes with an empty part, after a blank: a refusal and a note
 a_refused_line : findings_of_line (codes " 5,,10 * * * * x") (reports.Refused 1 6 (whys.Cron faults.Minutes))

@@ -37,7 +37,7 @@ use Rattle.croncheck_findings.specs.Found.{is_told_below}
 use Rattle.croncheck_warnings.specs.declared.presets.Reading.{Reading}
 use Rattle.croncheck_report.specs.Report.{blanks_of, notes_of_job, notes_of_refusal, taken_of}
 use Rattle.croncheck_output.specs.Escaped.{is_printed}
-use Rattle.croncheck_warnings.specs.Warnings.{warning_name, other_name, field_name, field_of}
+use Rattle.croncheck_warnings.specs.Warnings.{warning_name, other_name, field_name, field_of, is_refusal_elsewhere}
 
 -- ---- values
 
@@ -137,10 +137,14 @@ refusal_kind (whys.Crate e) = codes "text"
 refusal_kind whys.NotText = codes "not-utf-8"
 refusal_kind whys.NoUser = codes "unknown-user"
 
+-- how grave a warning is: that another program refuses the pattern is a fault
+abbrev pub severity_of : Warning → Severity
+severity_of w = if is_refusal_elsewhere w then severities.Error else severities.Warning
+
 -- a warning of a line with these times, at the place of its field, if it has one
 abbrev pub finding_of_warning : List ℕ → List ℕ → Warning → Found
 finding_of_warning line times w = record {
-  severity = severities.Warning;
+  severity = severity_of w;
   name = warning_name w;
   field = option_map field_name (field_of w);
   extent = place_of line times (field_of w);
@@ -189,11 +193,12 @@ findings_of_job line j =
 abbrev pub of_setting : List ℕ → OtherWarning → Found
 of_setting line w = finding_without_field severities.Warning (other_name w) (content_extent line)
 
--- what is found of a setting: that bytes hide others, that it says a zone, and that its value isn't expanded
+-- what is found of a setting: that bytes hide others, that it says a zone, that its value isn't expanded, and that it is no address of mail
 abbrev pub findings_of_setting : List ℕ → SettingReport → List Found
 findings_of_setting line s =
     only_if s.is_hiding (of_setting line others.ControlByte)
-    ++ (only_if s.is_zone (of_setting line others.NoZone) ++ only_if s.is_not_expanded (of_setting line others.NotExpanded))
+    ++ (only_if s.is_zone (of_setting line others.NoZone)
+    ++ (only_if s.is_not_expanded (of_setting line others.NotExpanded) ++ only_if s.sends_no_mail (of_setting line others.NoMail)))
 
 -- what is found of a line with a report: nothing of a good one. Where it is refused that stands first, after it its notes, and what another
 -- program takes of it

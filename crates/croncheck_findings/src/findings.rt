@@ -1,7 +1,7 @@
 //! What is found of a line and of a file: each thing with how grave it is, its name, its place and what it says.
 ghost use Rattle.std.specs.Prelude.{◌≡◌, [], ◌∷◌, ◌++◌, map, filter, option_map, is_some, IfOk, OnOk};
 ghost use Rattle.croncheck_output.specs.Severity.{severity_name};
-ghost use Rattle.croncheck_findings.specs.Findings.{content_extent, finding_seen, findings_seen, finding_without_field, only_if, fault_kind, refusal_kind, finding_of_warning, finding_of_note, finding_of_reading, finding_of_change, of_range, of_meetings, finding_of_unneeded, findings_of_job, of_setting, findings_of_setting, findings_of_line};
+ghost use Rattle.croncheck_findings.specs.Findings.{content_extent, finding_seen, findings_seen, finding_without_field, only_if, fault_kind, refusal_kind, severity_of, finding_of_warning, finding_of_note, finding_of_reading, finding_of_change, of_range, of_meetings, finding_of_unneeded, findings_of_job, of_setting, findings_of_setting, findings_of_line};
 ghost use Rattle.croncheck_findings.specs.Found.{is_told_below};
 ghost use Rattle.croncheck_findings.specs.Findings.{is_of_preset, described};
 ghost use Rattle.croncheck_report.specs.Report.{notes_of_refusal, taken_of};
@@ -314,6 +314,13 @@ fn push_setting(
         line,
         setting.is_not_expanded,
         OtherWarning::NotExpanded,
+    )?;
+    push_if(
+        alloc,
+        found,
+        line,
+        setting.sends_no_mail,
+        OtherWarning::NoMail,
     )
 }
 
@@ -444,12 +451,23 @@ fn finding_of_warning(
 {
     let text = warning_text(alloc, warning, dates)?;
     Ok(Finding {
-        severity: Severity::Warning,
+        severity: severity_of(warning),
         name: warning.name(),
         field: name_of_field(warning.field()),
         extent: place_of(line, times, warning.field()),
         text,
     })
+}
+
+// How grave a warning is: that another program refuses the pattern is a fault.
+fn severity_of(warning: Warning) -> Severity
+    ensures { result ≡ severity_of warning }
+{
+    if warning.is_refusal_elsewhere() {
+        Severity::Error
+    } else {
+        Severity::Warning
+    }
 }
 
 fn name_of_field(field: Option<PatternField>) -> Option<&'static str>

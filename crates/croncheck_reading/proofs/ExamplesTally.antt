@@ -11,7 +11,7 @@ use Rattle.croncheck_report.specs.declared.report.SettingReport.{SettingReport}
 use Rattle.croncheck_reading.specs.declared.tally.Tally.{Tally}
 use Rattle.croncheck_report.specs.FileSeen.{File, is_ignored, unread, with_line}
 use Rattle.croncheck_reading.specs.Files.{summary_of}
-use Rattle.croncheck_reading.specs.Tally.{none_counted, counted, added, is_too_many, with_file, status_of}
+use Rattle.croncheck_reading.specs.Tally.{none_counted, counted, counted_job, added, is_too_many, with_file, status_of}
 
 -- a tally of this many refused lines, and lines with a warning
 abbrev tally : ℕ → ℕ → Tally
@@ -19,7 +19,7 @@ tally refused warned = record { lines = 20_000; jobs = 2; refused = refused; war
 
 -- a setting of which nothing is found but that it says a zone elsewhere, if it does
 abbrev zone_found : Bool → SettingReport
-zone_found is_zone = record { is_zone = is_zone; is_not_expanded = false; is_hiding = false }
+zone_found is_zone = record { is_zone = is_zone; is_not_expanded = false; sends_no_mail = false; is_hiding = false }
 
 -- how many lines have a warning with this one after so many of a file, of which nothing else was seen
 abbrev warned_with : Dialect → ℕ → Line → Report → ℕ
@@ -82,6 +82,13 @@ a_second_at_line_10005 = refl
 
 a_plan_counts_none : (counted (tally 0 0) (reports.Setting (zone_found true) false)).warned ≡ 0
 a_plan_counts_none = refl
+
+-- a pattern that is read, and one that the program of `--for` refuses
+a_pattern : counted_job (tally 1 0) false ≡ record (tally 1 0) { lines = 20_001; jobs = 3 }
+a_pattern = refl
+
+a_pattern_refused_elsewhere : counted_job (tally 1 0) true ≡ record (tally 2 0) { lines = 20_001 }
+a_pattern_refused_elsewhere = refl
 
 -- ---- the status
 
@@ -157,3 +164,11 @@ none_warned = refl
 some_warned : summary_of (tally 1 3) ≡ codes "2 jobs, 1 refused, 3 with warnings\n"
 unfolding digits
 some_warned = refl
+
+one_ignored : summary_of (record (tally 1 0) { ignored = 1 }) ≡ codes "2 jobs, 1 refused, 1 file ignored\n"
+unfolding digits
+one_ignored = refl
+
+some_ignored : summary_of (record (tally 1 3) { ignored = 2 }) ≡ codes "2 jobs, 1 refused, 3 with warnings, 2 files ignored\n"
+unfolding digits
+some_ignored = refl

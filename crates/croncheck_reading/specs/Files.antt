@@ -1,5 +1,5 @@
 -- The files of a call, and what is said at its end. Source: this crate's documentation of `tell_files`.
-use Rattle.std.specs.Prelude.{◌≡◌, ◌==◌, ℕ, Bool, List, ◌++◌, codes, Option, Some, if◌then◌else◌}
+use Rattle.std.specs.Prelude.{◌≡◌, ◌==◌, ℕ, Bool, List, [], ◌++◌, codes, Option, Some, if◌then◌else◌}
 use Rattle.std.specs.declared.alloc.Global.{Global}
 use Rattle.std.specs.declared.string.String.{String}
 use Rattle.std.specs.Fmt.{decimal}
@@ -30,10 +30,20 @@ pub record HaveContents (holds : List ℕ → Option (List ℕ) → Type 0) (say
 abbrev pub noun_of : ℕ → List ℕ
 noun_of jobs = if jobs == 1 then codes "job" else codes "jobs"
 
--- what is said after the number of refused lines: how many have a warning, where some have
+-- how many lines have a warning, where some have
 abbrev pub warned_text : ℕ → List ℕ
-warned_text warned = if warned == 0 then codes " refused\n" else codes " refused, " ++ (decimal warned ++ codes " with warnings\n")
+warned_text warned = if warned == 0 then [] else codes ", " ++ (decimal warned ++ codes " with warnings")
+
+-- the noun of so many files
+abbrev pub files_noun : ℕ → List ℕ
+files_noun files = if files == 1 then codes "file" else codes "files"
+
+-- how many files cron ignores as wholes, where it does
+abbrev pub ignored_text : ℕ → List ℕ
+ignored_text ignored = if ignored == 0 then [] else codes ", " ++ (decimal ignored ++ (codes " " ++ (files_noun ignored ++ codes " ignored")))
 
 -- what is said at the end
 abbrev pub summary_of : Tally → List ℕ
-summary_of t = decimal t.jobs ++ (codes " " ++ (noun_of t.jobs ++ (codes ", " ++ (decimal t.refused ++ warned_text t.warned))))
+summary_of t =
+    decimal t.jobs ++ (codes " " ++ (noun_of t.jobs ++ (codes ", " ++ (decimal t.refused
+    ++ (codes " refused" ++ (warned_text t.warned ++ (ignored_text t.ignored ++ codes "\n")))))))

@@ -1,13 +1,13 @@
 -- What was told of lines so far, and the status. Source: this crate's documentation of `Tally`.
-use Rattle.std.specs.Prelude.{min, not, ◌&&◌, ◌||◌, ◌==◌, ℕ, ◌+◌, Bool, false, if◌then◌else◌}
+use Rattle.std.specs.Prelude.{min, not, ◌&&◌, ◌||◌, ◌==◌, ℕ, ◌+◌, Bool, true, false, if◌then◌else◌}
 use Rattle.crontab.specs.Line.{Line}
 use Rattle.crontab.specs.declared.line.Dialect.TheVariants as dialects
 use Rattle.crontab.specs.declared.line.Dialect.{Dialect}
 use Rattle.croncheck_report.specs.declared.report.Report.TheVariants as reports
 use Rattle.croncheck_report.specs.declared.report.Report.{Report}
 use Rattle.croncheck_reading.specs.declared.tally.Tally.{Tally}
-use Rattle.croncheck_report.specs.FileSeen.{File, is_late}
-use Rattle.croncheck_report.specs.Report.{has_warnings}
+use Rattle.croncheck_report.specs.FileSeen.{File, is_late, is_refused}
+use Rattle.croncheck_report.specs.Report.{has_warnings, is_refused_elsewhere}
 use Rattle.croncheck_warnings.specs.Warnings.{is_first_too_many}
 
 -- the most that 64 bits hold
@@ -22,12 +22,17 @@ one_more n = min (n + 1) most_counted
 abbrev pub none_counted : Tally
 none_counted = record { lines = 0; jobs = 0; refused = 0; warned = 0; ignored = 0 }
 
+-- with one more job or pattern, which another program refuses or doesn't
+abbrev pub counted_job : Tally → Bool → Tally
+counted_job t true = record t { lines = one_more t.lines; refused = one_more t.refused }
+counted_job t false = record t { lines = one_more t.lines; jobs = one_more t.jobs }
+
 -- with one more line, of which no warning is counted
 abbrev pub counted : Tally → Report → Tally
 counted t reports.Silent = record t { lines = one_more t.lines }
 counted t (reports.Misnamed name) = record t { lines = one_more t.lines }
 counted t (reports.Setting seen has_feed) = record t { lines = one_more t.lines }
-counted t (reports.Job j) = record t { lines = one_more t.lines; jobs = one_more t.jobs }
+counted t (reports.Job j) = counted_job t (is_refused_elsewhere j)
 counted t (reports.Refused start end why) = record t { lines = one_more t.lines; refused = one_more t.refused }
 
 -- `many-lines`: the line after so many of a file is the first for which cron ignores it as too long
@@ -36,9 +41,9 @@ is_too_many dialects.User lines line f = is_first_too_many lines
 is_too_many dialects.System lines line f = not f.has_late && is_late (one_more lines) line
 is_too_many dialects.Patterns lines line f = false
 
--- a line is warned of, which may be the first that is too many
+-- a line is warned of, which may be the first that is too many. One that is refused has no other warning
 abbrev pub is_line_warned : Bool → Report → Bool
-is_line_warned is_too_many report = has_warnings report || is_too_many
+is_line_warned is_too_many report = (has_warnings report && not (is_refused report)) || is_too_many
 
 -- one more, if it counts
 abbrev pub one_more_if : Bool → ℕ → ℕ

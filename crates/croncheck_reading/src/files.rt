@@ -4,7 +4,7 @@ ghost use Rattle.std.specs.declared.alloc.Global.{Global};
 ghost use Rattle.std.specs.declared.string.String.{String};
 ghost use Rattle.std.specs.String.{string_cmp};
 ghost use Rattle.crontab.specs.Checked.{TakesInTurn};
-ghost use Rattle.croncheck_reading.specs.Files.{Contents, HaveContents, noun_of, summary_of, warned_text};
+ghost use Rattle.croncheck_reading.specs.Files.{Contents, HaveContents, noun_of, summary_of, warned_text, files_noun, ignored_text};
 ghost use Rattle.croncheck_files.specs.Names.{asked_seen};
 ghost use Rattle.croncheck_output.specs.Output.{IsFlushed};
 ghost use Rattle.croncheck_reading.specs.Tally.{status_of};
@@ -29,6 +29,9 @@ const FAILED: u8 = 3;
 /// What is noted of another of cron's files than a crontab.
 const NO_CRONTAB: &str =
     "no crontab, and not read: run-parts runs the scripts of such a folder, and anacron reads anacrontab";
+
+/// What is noted of a folder of which no file is read.
+const NO_FILE: &str = "this folder has no file to read";
 
 /// What is noted of a folder in a folder.
 const NOT_ENTERED: &str =
@@ -80,8 +83,9 @@ pub trait Sources {
 /// Of a folder the files are told, in the order of their names; [`Treatment`] says what becomes of each. A file that is no crontab is not
 /// read. A file fails if it isn't opened or isn't read to its end, and a folder if it isn't listed.
 ///
-/// The name of what fails is written to `notes` with the reason, and so is the name of what isn't read; at the end follows how many jobs
-/// were read, how many lines are refused and how many have warnings. An error of `notes` is passed over.
+/// The name of what fails is written to `notes` with the reason, and so is the name of what isn't read, and of a folder without a file that
+/// is; at the end follows how many jobs
+/// were read, how many lines are refused, how many have warnings, and how many files cron ignores. An error of `notes` is passed over.
 ///
 /// The error is that of what is written to, or says that memory is lacking.
 pub fn tell_files<'s, 't, S: Sources, F: Form, W: Write, N: Write>(
@@ -154,7 +158,30 @@ fn folder_fails<'s, 't, S: Sources, F: Form, W: Write, N: Write>(
             return Ok(true);
         }
     };
-    any_fails(sources, kinds, file, names.as_slice(), sink, notes)
+    let before = sink.progress.files;
+    let is_failed = any_fails(sources, kinds, file, names.as_slice(), sink, notes)?;
+    note_if(
+        !is_failed && sink.progress.files == before,
+        kinds,
+        file.name,
+        NO_FILE,
+        notes,
+    )?;
+    Ok(is_failed)
+}
+
+// Notes something of a file, if it holds.
+fn note_if<N: Write>(
+    holds: bool,
+    kinds: &TermsByKind<'_, '_>,
+    name: &str,
+    text: &str,
+    notes: &mut N,
+) -> Result<(), AllocError> {
+    if holds {
+        note(kinds, name, text, notes)?;
+    }
+    Ok(())
 }
 
 // The names in a folder, in the order of their bytes.
@@ -347,7 +374,7 @@ fn may_be_pattern(name: &str) -> bool {
         || !bytes.iter().any(|byte| byte.is_ascii_alphabetic())
 }
 
-// How many jobs were read, how many lines are refused, and how many have warnings, if some have.
+// How many jobs were read, how many lines are refused, how many have warnings, and how many files cron ignores as wholes.
 fn summary_of(alloc: Global, tally: Tally) -> Result<String, AllocError>
     ensures { IfOk result (λ text. string_bytes text ≡ summary_of tally) }
 {
@@ -355,17 +382,36 @@ fn summary_of(alloc: Global, tally: Tally) -> Result<String, AllocError>
     let noun = noun_of(jobs);
     let warned = warned_text(alloc, tally.warned)?;
     let warned = warned.as_str();
-    format!(in alloc; "{jobs} {noun}, {refused}{warned}")
+    let ignored = ignored_text(alloc, tally.ignored)?;
+    let ignored = ignored.as_str();
+    format!(in alloc; "{jobs} {noun}, {refused} refused{warned}{ignored}\n")
 }
 
-// What is said after the number of refused lines.
+// How many lines have warnings, if some have.
 fn warned_text(alloc: Global, warned: u64) -> Result<String, AllocError>
     ensures { IfOk result (λ text. string_bytes text ≡ warned_text warned) }
 {
     if warned == 0 {
-        return String::from_str(alloc, " refused\n");
+        return Ok(String::new(alloc));
     }
-    format!(in alloc; " refused, {warned} with warnings\n")
+    format!(in alloc; ", {warned} with warnings")
+}
+
+// How many files cron ignores as wholes, if it does.
+fn ignored_text(alloc: Global, ignored: u64) -> Result<String, AllocError>
+    ensures { IfOk result (λ text. string_bytes text ≡ ignored_text ignored) }
+{
+    if ignored == 0 {
+        return Ok(String::new(alloc));
+    }
+    let noun = files_noun(ignored);
+    format!(in alloc; ", {ignored} {noun} ignored")
+}
+
+fn files_noun(files: u64) -> &'static str
+    ensures { result.now ≡ files_noun files }
+{
+    if files == 1 { "file" } else { "files" }
 }
 
 fn noun_of(jobs: u64) -> &'static str

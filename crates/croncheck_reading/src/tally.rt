@@ -4,7 +4,7 @@ ghost use Rattle.crontab.specs.Entries.{entry_seen};
 ghost use Rattle.croncheck_report.specs.FileSeen.{file_seen};
 ghost use Rattle.croncheck_reading.specs.Tally.{one_more, none_counted, counted, is_too_many, is_line_warned, one_more_if, added, with_file, status_of};
 
-use croncheck_report::file_seen::{FileSeen, is_late};
+use croncheck_report::file_seen::{FileSeen, is_late, is_refused};
 use croncheck_report::report::Report;
 use croncheck_warnings::warnings::is_first_too_many;
 use crontab::line::{Dialect, Entry};
@@ -14,9 +14,9 @@ use crontab::line::{Dialect, Entry};
 pub struct Tally {
     /// The lines.
     pub lines: u64,
-    /// The jobs and patterns that were read.
+    /// The jobs and patterns that were read, and that no program refuses which they are read for.
     pub jobs: u64,
-    /// The lines that are refused.
+    /// The lines that are refused, also by the program that patterns are read for.
     pub refused: u64,
     /// The lines that have a warning, and the files whose name has one. A plan counts no lines here.
     pub warned: u64,
@@ -54,8 +54,8 @@ impl Tally {
     {
         self.lines = one_more(self.lines);
         match report {
-            Report::Job(_) => self.jobs = one_more(self.jobs),
-            Report::Refused { .. } => self.refused = one_more(self.refused),
+            Report::Job(job) if !job.is_refused_elsewhere() => self.jobs = one_more(self.jobs),
+            Report::Job(_) | Report::Refused { .. } => self.refused = one_more(self.refused),
             Report::Silent | Report::Misnamed(_) | Report::Setting { .. } => {}
         }
     }
@@ -82,11 +82,11 @@ impl Tally {
     }
 }
 
-// Whether a line is warned of, which may be the first that is too many.
+// Whether a line is warned of, which may be the first that is too many. One that is refused has no other warning.
 fn is_line_warned(is_too_many: bool, report: &Report<'_, '_>) -> bool
     ensures { result ≡ is_line_warned is_too_many report.now }
 {
-    report.has_warnings() || is_too_many
+    report.has_warnings() && !is_refused(report) || is_too_many
 }
 
 /// Whether the line after `lines` lines of a file is the first one for which cron ignores the file as too long.

@@ -29,7 +29,7 @@ allowable =
     ∷ codes "whole-hour" ∷ codes "short-months" ∷ codes "gone" ∷ codes "never" ∷ codes "no-command" ∷ codes "looks-like-field" ∷ codes "user"
     ∷ codes "percent" ∷ codes "continued" ∷ codes "control-byte" ∷ codes "carriage-return" ∷ codes "empty-item" ∷ codes "other-name"
     ∷ codes "preset"
-    ∷ codes "no-zone" ∷ codes "not-expanded" ∷ codes "gap" ∷ codes "twice" ∷ codes "same-job" ∷ []
+    ∷ codes "no-zone" ∷ codes "not-expanded" ∷ codes "no-mail" ∷ codes "gap" ∷ codes "twice" ∷ codes "same-job" ∷ []
 
 -- a name is among these
 abbrev pub is_listed : List (List ℕ) → List ℕ → Bool
@@ -119,6 +119,7 @@ abbrev pub setting_left : Settings → List (List ℕ) → SettingReport → Set
 setting_left s above seen = record {
   is_zone = seen.is_zone && not (is_allowed s above (other_name others.NoZone));
   is_not_expanded = seen.is_not_expanded && not (is_allowed s above (other_name others.NotExpanded));
+  sends_no_mail = seen.sends_no_mail && not (is_allowed s above (other_name others.NoMail));
   is_hiding = seen.is_hiding && not (is_allowed s above (other_name others.ControlByte));
 }
 

@@ -6,6 +6,7 @@ use Rattle.crontab.specs.declared.line.Dialect.TheVariants as dialects
 use Rattle.croncheck_files.specs.declared.fitness.Unfit.{Unfit}
 use Rattle.croncheck_report.specs.declared.report.Report.{Report}
 use Rattle.croncheck_report.specs.declared.report.Report.TheVariants as reports
+use Rattle.croncheck_report.specs.Report.{is_refused_elsewhere}
 use Rattle.crontab.specs.Line.{Line, blank, comment, setting, job, pattern, refused}
 use Rattle.croncheck_files.specs.Fitness.{unfit_line}
 use Rattle.croncheck_warnings.specs.Warnings.{are_many_lines, is_after_last, is_continued}
@@ -19,12 +20,12 @@ counts (job task) = true
 counts (pattern text) = true
 counts (refused fault) = true
 
--- the line is refused
+-- the line is refused, or is a pattern that the program of a preset refuses
 abbrev pub is_refused : Report → Bool
 is_refused reports.Silent = false
 is_refused (reports.Misnamed name) = false
 is_refused (reports.Setting seen has_feed) = false
-is_refused (reports.Job j) = false
+is_refused (reports.Job j) = is_refused_elsewhere j
 is_refused (reports.Refused start end why) = true
 
 -- ---- the file

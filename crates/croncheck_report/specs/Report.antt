@@ -1,5 +1,6 @@
 -- What a line is told. Source: this crate's documentation of `Report`.
 use Rattle.std.specs.Prelude.{◌≡◌, ◌⊎◌, ◌<◌, get_or, not, ◌||◌, ◌==◌, ℕ, ◌+◌, Bool, true, false, List, [], ◌++◌, length, map, Option, Some, None, option_map, is_some, Result, Ok, Err, string_bytes, IsUtf8, if◌then◌else◌}
+use Rattle.std.specs.List.{list_any}
 use Rattle.croner_base.specs.declared.errors.CronError.{CronError}
 use Rattle.croner_base.specs.declared.time.civil.CivilDateTime.{CivilDateTime}
 use Rattle.croner_base.specs.Civil.{wall_second, weekday_of_second}
@@ -38,6 +39,7 @@ use Rattle.croncheck_warnings.specs.declared.warnings.sides.Dates.{Dates}
 use Rattle.croncheck_report.specs.Allowed.{unknown_name_in}
 use Rattle.croncheck_changes.specs.Changes.{AreMeetings, none_met, are_warned}
 use Rattle.croncheck_warnings.specs.Hidden.{has_hidden}
+use Rattle.croncheck_warnings.specs.Mail.{names_no_address}
 use Rattle.croncheck_report.specs.Settings.{start_of}
 use Rattle.croncheck_report.specs.Told.{TellsMeaning, TellsTiming, cron_of, is_at_window_end, is_never, is_told_past, is_idle}
 use Rattle.croncheck_warnings.specs.Users.{users_seen, is_unknown, user_start, user_end}
@@ -45,7 +47,7 @@ use Rattle.croncheck_warnings.specs.declared.presets.Reading.{Reading}
 use Rattle.croncheck_warnings.specs.declared.warnings.Warning.TheVariants as warnings
 use Rattle.croncheck_warnings.specs.Presets.{AreReadings}
 use Rattle.croner_presets.specs.declared.preset.Preset.{Preset}
-use Rattle.croncheck_warnings.specs.Warnings.{fields_of_schedule, AreFieldsOfPattern, is_either_day, IsMonthOf, NamesDates, Subject, warnings_of}
+use Rattle.croncheck_warnings.specs.Warnings.{fields_of_schedule, AreFieldsOfPattern, is_either_day, IsMonthOf, NamesDates, Subject, warnings_of, is_refusal_elsewhere}
 
 -- ---- warnings
 
@@ -231,12 +233,13 @@ abbrev pub setting_found : Bool → List ℕ → SettingReport
 setting_found is_zone line = record {
   is_zone = is_zone;
   is_not_expanded = is_not_expanded (text_after kinds.Blank line);
+  sends_no_mail = names_no_address (text_after kinds.Blank line);
   is_hiding = has_hidden (text_after kinds.Blank line);
 }
 
 -- any of these is found
 abbrev pub is_setting_found : SettingReport → Bool
-is_setting_found s = s.is_zone || (s.is_not_expanded || s.is_hiding)
+is_setting_found s = s.is_zone || (s.is_not_expanded || (s.sends_no_mail || s.is_hiding))
 
 -- ---- a line
 
@@ -301,6 +304,12 @@ place_for (reports.Refused start end why) found = None
 -- it has none, whatever was found
 abbrev pub HasNoPlace : Report → Type 0
 HasNoPlace r = (found : Option (List ℕ × ℕ)) → earlier_of r ≡ place_for r found
+
+-- ---- patterns that another program refuses
+
+-- the program of a preset refuses the pattern, and that isn't allowed
+abbrev pub is_refused_elsewhere : JobReport → Bool
+is_refused_elsewhere j = list_any is_refusal_elsewhere j.warnings.items
 
 -- ---- lines with a warning
 

@@ -19,7 +19,7 @@ use std::alloc::{AllocError, Global};
 /// The names of the warnings that may be allowed, in the order of the table in docs/CRONTAB.md.
 ///
 /// That a crontab's last line has no line feed, or that it has too many lines, can't be allowed: cron ignores such a file.
-pub const ALLOWABLE: [&str; 25] = [
+pub const ALLOWABLE: [&str; 26] = [
     "either-day",
     "uneven-step",
     "step-beyond",
@@ -42,6 +42,7 @@ pub const ALLOWABLE: [&str; 25] = [
     PRESET,
     "no-zone",
     "not-expanded",
+    "no-mail",
     "gap",
     "twice",
     "same-job",
@@ -114,6 +115,7 @@ fn setting_left(settings: &Settings<'_>, above: &[&str], seen: SettingReport) ->
             seen.is_not_expanded,
             OtherWarning::NotExpanded,
         ),
+        sends_no_mail: is_left(settings, above, seen.sends_no_mail, OtherWarning::NoMail),
         is_hiding: is_left(settings, above, seen.is_hiding, OtherWarning::ControlByte),
     }
 }

@@ -255,13 +255,14 @@ fn push_ignored(text: &mut String, name: &str, reason: &str) -> Result<(), Alloc
     text.push_str(reason)
 }
 
-/// Whether the report of a line is a refusal.
+/// Whether the report of a line is a refusal, or that of a pattern which the program refuses that patterns are read for.
 pub fn is_refused(report: &Report<'_, '_>) -> bool
     ensures { result ≡ is_refused report.now }
 {
     match report {
         Report::Refused { .. } => true,
-        Report::Silent | Report::Misnamed(_) | Report::Setting { .. } | Report::Job(_) => false,
+        Report::Job(job) => job.is_refused_elsewhere(),
+        Report::Silent | Report::Misnamed(_) | Report::Setting { .. } => false,
     }
 }
 

@@ -6,7 +6,7 @@ ghost use Rattle.crontab.specs.Content.{IsOutcome, IsOutcomeOfTimes, IsOutcomeOf
 ghost use Rattle.crontab.specs.Entries.{entry_seen, job_seen, times_seen};
 ghost use Rattle.croncheck_report.specs.declared.settings.Settings.{Settings as Made};
 ghost use Rattle.croncheck_report.specs.Allowed.{unknown_name_in};
-ghost use Rattle.croncheck_report.specs.Report.{IsReportOfJob, IsReportOfPattern, blanks_of, IsReportOfLine, IsReportOfComment, TellsChanges, subject_of, IsWarned, WarnsPattern, TellsDates, file_and_line, earlier_of, place_for, HasNoPlace, setting_found, is_setting_found, has_job_warnings, has_warnings, notes_of_job, notes_of_refusal, taken_of, notes_of_report, refused_user, IsReportBy, why_after_open_line, report_after_line};
+ghost use Rattle.croncheck_report.specs.Report.{IsReportOfJob, IsReportOfPattern, blanks_of, IsReportOfLine, IsReportOfComment, TellsChanges, subject_of, IsWarned, WarnsPattern, TellsDates, file_and_line, earlier_of, place_for, HasNoPlace, setting_found, is_setting_found, is_refused_elsewhere, has_job_warnings, has_warnings, notes_of_job, notes_of_refusal, taken_of, notes_of_report, refused_user, IsReportBy, why_after_open_line, report_after_line};
 ghost use Rattle.croncheck_warnings.specs.Users.{users_seen, is_unknown};
 ghost use Rattle.croncheck_warnings.specs.Starred.{is_starred};
 ghost use Rattle.croncheck_report.specs.Told.{TellsTiming};
@@ -17,6 +17,7 @@ use crate::settings::Settings;
 use crate::told::{Told, is_idle, told_of, told_of_crontab};
 use croncheck_changes::changes::meetings::Meetings;
 use croncheck_runs::runs::Runner;
+use croncheck_warnings::mail::names_no_address;
 use croncheck_warnings::presets::{Reading, readings_of};
 use croncheck_warnings::starred::is_starred;
 use croncheck_warnings::users::{Users, is_unknown, user_end, user_start};
@@ -86,6 +87,8 @@ pub struct SettingReport {
     pub is_zone: bool,
     /// The value has something that a shell would expand, and that cron takes as it stands.
     pub is_not_expanded: bool,
+    /// The variable is `MAILTO`, and the value is no address to which cron sends mail.
+    pub sends_no_mail: bool,
     /// The line has a byte that hides others.
     pub is_hiding: bool,
 }
@@ -95,7 +98,7 @@ impl SettingReport {
     pub fn is_found(self) -> bool
         ensures { result ≡ is_setting_found self }
     {
-        self.is_zone || self.is_not_expanded || self.is_hiding
+        self.is_zone || self.is_not_expanded || self.sends_no_mail || self.is_hiding
     }
 }
 
@@ -182,6 +185,15 @@ impl Report<'_, '_> {
 }
 
 impl JobReport<'_, '_> {
+    /// Whether the program that patterns are read for refuses this one, and that isn't allowed.
+    pub fn is_refused_elsewhere(&self) -> bool
+        ensures { result ≡ is_refused_elsewhere self.now }
+    {
+        self.warnings
+            .iter()
+            .any(|warning| warning.is_refusal_elsewhere())
+    }
+
     /// Whether the job or the pattern has a warning.
     pub fn has_warnings(&self) -> bool
         ensures { result ≡ has_job_warnings self.now }
@@ -314,6 +326,7 @@ fn setting_of(is_zone: bool, line: &[u8]) -> SettingReport
     SettingReport {
         is_zone,
         is_not_expanded: is_not_expanded(text),
+        sends_no_mail: names_no_address(text),
         is_hiding: has_hidden(text),
     }
 }

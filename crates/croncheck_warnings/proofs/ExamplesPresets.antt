@@ -5,7 +5,7 @@ use Rattle.croner_presets.specs.declared.difference.Difference.TheVariants as di
 use Rattle.croner_presets.specs.declared.preset.Preset.TheVariants as presets
 use Rattle.croncheck_warnings.specs.declared.warnings.Warning.TheVariants as warnings
 use Rattle.croncheck_warnings.specs.Presets.{is_told, reading}
-use Rattle.croncheck_warnings.specs.Warnings.{warning_name}
+use Rattle.croncheck_warnings.specs.Warnings.{warning_name, is_refusal_elsewhere}
 
 -- `@every 5m`, which the parser refuses and Kubernetes takes
 taken_where_refused : is_told true differences.Every ≡ true
@@ -28,3 +28,13 @@ read_otherwise = refl
 
 its_name : warning_name (warnings.Preset (reading presets.Kubernetes differences.SundayAsSeven)) ≡ codes "preset"
 its_name = refl
+
+a_refusal : is_refusal_elsewhere (warnings.Preset (reading presets.Kubernetes differences.SundayAsSeven)) ≡ true
+a_refusal = refl
+
+-- what is read otherwise is none, nor is a warning of the line's own
+no_refusal : is_refusal_elsewhere (warnings.Preset (reading presets.Github differences.Frequent)) ≡ false
+no_refusal = refl
+
+no_refusal_of_cron : is_refusal_elsewhere warnings.EitherDay ≡ false
+no_refusal_of_cron = refl

@@ -1,3 +1,4 @@
+mod ExamplesMail
 mod ExamplesPresets
 mod ExamplesStarred
 mod ExamplesUsers

@@ -1,4 +1,5 @@
 pub mod Hidden
+pub mod Mail
 pub mod Presets
 pub mod Starred
 pub mod Users

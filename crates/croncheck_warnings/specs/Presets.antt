@@ -17,6 +17,16 @@ is_taking kinds.ReadsOtherwise = false
 abbrev pub is_taken : Difference → Bool
 is_taken difference = is_taking (kind_of difference)
 
+-- the program refuses what the parser takes
+abbrev pub is_refusing : Kind → Bool
+is_refusing kinds.Refuses = true
+is_refusing kinds.Takes = false
+is_refusing kinds.ReadsOtherwise = false
+
+-- what is read otherwise is so for a form that the program refuses
+abbrev pub is_refusal : Reading → Bool
+is_refusal r = is_refusing (kind_of r.difference)
+
 -- of a pattern that is refused what the program takes is told; of another one what it refuses, or reads otherwise
 abbrev pub is_told : Bool → Difference → Bool
 is_told is_refused difference = if is_refused then is_taken difference else not (is_taken difference)

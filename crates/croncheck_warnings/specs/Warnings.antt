@@ -19,6 +19,7 @@ use Rattle.crontab.specs.declared.bytes.Kind.TheVariants as kinds
 use Rattle.crontab.specs.declared.field.Names.TheVariants as names
 use Rattle.crontab.specs.declared.field.FieldBounds.{FieldBounds}
 use Rattle.crontab.specs.declared.field.SteppedRange.{SteppedRange}
+use Rattle.croncheck_warnings.specs.Presets.{is_refusal}
 use Rattle.croncheck_warnings.specs.declared.warnings.OtherWarning.{OtherWarning}
 use Rattle.croncheck_warnings.specs.declared.warnings.OtherWarning.TheVariants as others
 use Rattle.crontab.specs.Bytes.{front, text_after, begins_with}
@@ -376,12 +377,18 @@ warning_name warnings.EmptyItem = codes "empty-item"
 warning_name (warnings.OtherName field) = codes "other-name"
 warning_name (warnings.Preset reading) = codes "preset"
 
+-- the program of a preset refuses the pattern
+abbrev pub is_refusal_elsewhere : Warning → Bool
+is_refusal_elsewhere (warnings.Preset reading) = is_refusal reading
+is_refusal_elsewhere other = false
+
 -- the name of one of a setting, or of the number of lines: where a job may have it too the name is the same
 abbrev pub other_name : OtherWarning → List ℕ
 other_name others.NoNewline = warning_name warnings.NoNewline
 other_name others.ControlByte = warning_name warnings.ControlByte
 other_name others.NoZone = codes "no-zone"
 other_name others.NotExpanded = codes "not-expanded"
+other_name others.NoMail = codes "no-mail"
 other_name others.ManyLines = codes "many-lines"
 
 -- the name of a field as warnings have it

@@ -1,6 +1,6 @@
 //! Where another program reads a pattern differently.
 ghost use Rattle.std.specs.Prelude.{◌≡◌, map, filter, IfOk, IfErr};
-ghost use Rattle.croncheck_warnings.specs.Presets.{is_taken, is_told, reading, AreReadings};
+ghost use Rattle.croncheck_warnings.specs.Presets.{is_taken, is_told, is_refusal, reading, AreReadings};
 
 use croner::errors::CronError;
 use croner_presets::{Difference, Kind, Preset, differences};
@@ -20,6 +20,16 @@ impl Reading {
     /// A sentence that says what the program reads differently. The only error is lack of memory.
     pub fn sentence(self, alloc: Global) -> Result<String, AllocError> {
         self.preset.sentence(alloc, self.difference)
+    }
+
+    /// Whether the program refuses the pattern for it.
+    pub fn is_refusal(self) -> bool
+        ensures { result ≡ is_refusal self }
+    {
+        match self.difference.kind() {
+            Kind::Refuses => true,
+            Kind::Takes | Kind::ReadsOtherwise => false,
+        }
     }
 }
 

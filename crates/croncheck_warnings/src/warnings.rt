@@ -96,6 +96,8 @@ pub enum OtherWarning {
     NoZone,
     /// The setting's value has something that a shell would expand, and that cron takes as it stands.
     NotExpanded,
+    /// The setting's variable is `MAILTO`, and its value is no address to which cron sends mail.
+    NoMail,
     /// The file has more lines than cron takes.
     ManyLines,
 }

@@ -30,7 +30,7 @@ const ABOUT_DESCRIBE: &str = "Tells what patterns mean";
 const AFTER_PATTERNS: &str =
     "PATTERN is one word of the shell: write it in quotes, as '30 9 * * MON-FRI'. It has five to seven fields: seconds if there are six or seven, minutes, hours, days of the month, months, weekdays, and years if there are seven.
 
-Status: 0 all patterns were read, 1 one is refused, 2 the words are not of this form, 3 the zone or the output failed.";
+Status: 0 all patterns were read, 1 one is refused, also by the program of --for, 2 the words are not of this form, 3 the zone or the output failed.";
 
 const PRESET_OF_PATTERNS: &str =
     "Reads patterns as this program does, as far as there are settings for it, and tells what it still reads otherwise";
@@ -275,7 +275,7 @@ fn with_clock<'w>(
 ) -> Result<Command<'w>, AllocError> {
     command
         .arg(value(alloc, "zone", "NAME|RULE|local").help(
-            "The zone: by its name, as a POSIX rule, or local, the machine's; else local, with next --for github UTC",
+            "The zone: by its name, as a POSIX rule, or local, the machine's; else local, with --for github UTC, unless crontabs are read too",
         ))?
         .arg(
             value(alloc, "from", "DATETIME|DATE|@SECONDS|now")

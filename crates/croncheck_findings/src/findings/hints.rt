@@ -14,6 +14,9 @@ use crontab::line::Fault;
 use std::alloc::{AllocError, Global};
 use std::fmt;
 
+/// How many digits a year has.
+const YEAR_LENGTH: usize = 4;
+
 /// Appends to a text why cron refuses a field: cron's own words, the part of the list that it doesn't take, what is wrong there, and what
 /// to write. Where nothing of this is known, it says which values the field takes.
 pub(super) fn push_hint(
@@ -145,7 +148,7 @@ fn words_of_first(line: &[u8], word: &[u8]) -> Option<&'static str> {
 pub(super) fn words_of_schedule(word: &[u8]) -> Option<&'static str> {
     if word.starts_with(b"cron(") {
         return Some(
-            "cron(..) is of AWS: write its first five fields alone, with * for ?, and no year",
+            "cron(..) is of AWS: write its first five fields alone, with * for ?, no year, and weekdays by name, since AWS counts them from 1 for Sunday",
         );
     }
     if word.starts_with(b"rate(") || is_word(word, "every") {
@@ -181,7 +184,7 @@ fn is_name_of_setting(word: &[u8]) -> bool {
 fn words_of_part(line: &[u8], part: &[u8]) -> Option<&'static str> {
     if is_word(part, "?") {
         return Some(if has_year(line) {
-            "cron has no ? and no field of years: write * for ?, and leave out the year after the weekdays"
+            "cron has no ? and no field of years: write * for ?, leave out the year after the weekdays, and name these, since AWS counts them from 1 for Sunday"
         } else {
             "cron has no ?: write *"
         });
@@ -205,21 +208,42 @@ fn is_hashed(part: &[u8]) -> bool {
     begins_with(part, b'H') && matches!(rest_of(part), [] | [b'/' | b'(', ..])
 }
 
-// Whether the sixth word of a line is a star or a year.
+/// What is said of a pattern of six fields that is one of AWS: a year stands last, and a `?` in place of the days or the weekdays. Whether
+/// the parser takes six fields decides what to write.
+pub(super) fn words_of_years(pattern: &[u8], takes_six: bool) -> Option<&'static str> {
+    let has_open_day = is_word(word_at(pattern, 2), "?") || is_word(word_at(pattern, 4), "?");
+    if !has_open_day || !has_year(pattern) || !word_at(pattern, 6).is_empty() {
+        return None;
+    }
+    Some(if takes_six {
+        "six fields with the year last are of AWS: write 0 in front, for the seconds, leave out a * at the end, and name weekdays, since AWS counts them from 1 for Sunday"
+    } else {
+        "six fields with the year last are of AWS: write the first five alone, with * for ?, and name weekdays, since AWS counts them from 1 for Sunday"
+    })
+}
+
+// Whether the sixth word of a line is a star or a year, or begins with a year.
 fn has_year(line: &[u8]) -> bool {
+    let word = word_at(line, 5);
+    let (year, rest) = word.split_at(YEAR_LENGTH.min(word.len()));
+    is_word(word, "*") || is_year(year) && matches!(rest, [] | [b'-' | b',' | b'/', ..])
+}
+
+// The word of a line at a place, from 0; empty where the line has fewer.
+fn word_at(line: &[u8], place: usize) -> &[u8] {
     let (_, mut rest) = cut(line, Kind::Blank);
-    for _word in 0..5 {
+    for _word in 0..place {
         let (_, after) = cut(rest, Kind::Word);
         let (_, next) = cut(after, Kind::Blank);
         rest = next;
     }
     let (word, _) = cut(rest, Kind::Word);
-    is_word(word, "*") || is_year(word)
+    word
 }
 
 // Whether a word is a number of four digits.
 fn is_year(word: &[u8]) -> bool {
-    word.len() == 4 && word.iter().all(|byte| byte.is_ascii_digit())
+    word.len() == YEAR_LENGTH && word.iter().all(|byte| byte.is_ascii_digit())
 }
 
 fn is_one_of(word: &[u8], names: &[&str]) -> bool {

@@ -1,6 +1,8 @@
 //! Why croner's parser refuses a pattern, and what to write in its place where its own words don't say that.
 
-use super::hints::{Meant, foreign_sign, meant_by, push_sign, words_of_hashed, words_of_schedule};
+use super::hints::{
+    Meant, foreign_sign, meant_by, push_sign, words_of_hashed, words_of_schedule, words_of_years,
+};
 use super::reasons::bytes_at_fault;
 use croner::parser::PatternFault;
 use crontab::bytes::{Kind, begins_with, cut, rest_of};
@@ -28,7 +30,7 @@ pub(super) fn push_pattern_reason(
         push_sign(text, sign)?;
         return text.push('.');
     }
-    match words_of_another(pattern, first, fault.start) {
+    match words_of_another(pattern, first, fault) {
         Some(words) => write!(text, " Hint: {words}."),
         None => Ok(()),
     }
@@ -42,11 +44,14 @@ fn push_meant(text: &mut String, meant: Option<Meant>) -> Result<(), AllocError>
     }
 }
 
-// What is said of a pattern with this first word, refused at a place, that another program takes.
-fn words_of_another(pattern: &[u8], first: &[u8], at: usize) -> Option<&'static str> {
-    match words_of_schedule(first) {
+// What is said of a pattern with this first word, which has this fault, that another program takes.
+fn words_of_another(pattern: &[u8], first: &[u8], fault: &PatternFault) -> Option<&'static str> {
+    if let Some(words) = words_of_schedule(first) {
+        return Some(words);
+    }
+    match words_of_hashed(piece_at(pattern, fault.start, ENDS_OF_PART)) {
         Some(words) => Some(words),
-        None => words_of_hashed(piece_at(pattern, at, ENDS_OF_PART)),
+        None => words_of_years(pattern, fault.field.is_some()),
     }
 }
 

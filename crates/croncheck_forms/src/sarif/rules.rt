@@ -8,7 +8,7 @@ pub struct Rule {
 }
 
 /// The rules of all findings.
-pub const RULES: [Rule; 55] = [
+pub const RULES: [Rule; 56] = [
     Rule {
         name: "nul",
         text: "The line has a byte 0, at which cron ends it.",
@@ -175,7 +175,7 @@ pub const RULES: [Rule; 55] = [
     },
     Rule {
         name: "preset",
-        text: "The program that patterns are read for (--for) reads the pattern otherwise.",
+        text: "The program that patterns are read for (--for) refuses the pattern, or reads it otherwise.",
     },
     Rule {
         name: "no-zone",
@@ -184,6 +184,10 @@ pub const RULES: [Rule; 55] = [
     Rule {
         name: "not-expanded",
         text: "Cron expands nothing in the value of a setting.",
+    },
+    Rule {
+        name: "no-mail",
+        text: "Cron sends no mail to what a setting names.",
     },
     Rule {
         name: "gap",

@@ -1,6 +1,6 @@
 //! The names of warnings, and what they say.
 ghost use Rattle.std.specs.Prelude.{◌≡◌};
-ghost use Rattle.croncheck_warnings.specs.Warnings.{field_of, warning_name, other_name};
+ghost use Rattle.croncheck_warnings.specs.Warnings.{field_of, warning_name, is_refusal_elsewhere, other_name};
 
 use super::sides::{Dates, Month};
 use super::{OtherWarning, Warning};
@@ -67,6 +67,17 @@ impl Warning {
         }
     }
 
+    /// Whether it says that the program which patterns are read for refuses the pattern.
+    pub fn is_refusal_elsewhere(self) -> bool
+        ensures { result ≡ is_refusal_elsewhere self }
+    {
+        if let Warning::Preset(reading) = self {
+            reading.is_refusal()
+        } else {
+            false
+        }
+    }
+
     /// What happens, and what to write instead.
     pub fn text(self) -> &'static str {
         match self {
@@ -105,6 +116,7 @@ impl OtherWarning {
             OtherWarning::ControlByte => Warning::ControlByte.name(),
             OtherWarning::NoZone => "no-zone",
             OtherWarning::NotExpanded => "not-expanded",
+            OtherWarning::NoMail => "no-mail",
             OtherWarning::ManyLines => "many-lines",
         }
     }
@@ -116,6 +128,7 @@ impl OtherWarning {
             OtherWarning::ControlByte => Warning::ControlByte.text(),
             OtherWarning::NoZone => NO_ZONE,
             OtherWarning::NotExpanded => NOT_EXPANDED,
+            OtherWarning::NoMail => NO_MAIL,
             OtherWarning::ManyLines => MANY_LINES,
         }
     }
@@ -171,7 +184,7 @@ fn push_days(text: &mut String, days: u32, length: u32) -> Result<(), AllocError
 }
 
 const EITHER_DAY: &str =
-    "The job runs on each day that the day of the month or the weekday names, not only where both do. For one of the two, write `*` for the other; for both, let the command test the second, as `[ $(date +\\%u) = 1 ] && ..` does for Monday. In a file of patterns (`--patterns`) `+` before the weekday does it; cron refuses that.";
+    "The job runs on each day that the day of the month or the weekday names, not only where both do. For one of the two, write `*` for the other; for both, let the command test the second, as `[ $(date +\\%u) = 1 ] && ..` does for Monday. In a pattern for croner (`--patterns` without `--for`) `+` before the weekday does it; cron and other programs don't know that.";
 
 const UNEVEN_STEP: &str =
     "The step is counted anew from the field's first value, so that from the last run of an hour, minute or day to the next it is shorter. Write a step that divides 60 (24 for hours).";
@@ -226,6 +239,9 @@ const NO_ZONE: &str =
 
 const NOT_EXPANDED: &str =
     "Cron takes a value as it stands: it expands neither `$` nor `~`, and a comment after it is a part of it. Write the whole path, and put a comment on a line of its own.";
+
+const NO_MAIL: &str =
+    "Cron sends no mail where the value of `MAILTO` has a blank, a `<` or another sign than letters, digits and `@!:%-.,_+=/`, or doesn't begin with a letter or a digit. Write the address alone, as `ops@example.org`; several stand with commas between them, and no blanks.";
 
 const CARRIAGE_RETURN: &str =
     "The line ends with a carriage return, which becomes part of the command. Save the file with line feeds alone.";
