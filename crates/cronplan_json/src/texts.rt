@@ -8,18 +8,18 @@ use serde_json::Value;
 use std::alloc::{AllocError, Global};
 
 /// A list of these texts. The only error is lack of memory.
-pub(crate) fn texts_value(alloc: Global, texts: &[&str]) -> Result<Value, AllocError>
-    ensures { IfOk result (λ v. view v ≡ texts texts.now) }
+pub(crate) fn texts_value(alloc: Global, lines: &[&str]) -> Result<Value, AllocError>
+    ensures { IfOk result (λ v. view v ≡ texts lines.now) }
 {
-    let items = text_items(alloc, texts)?;
+    let items = text_items(alloc, lines)?;
     Ok(Value::Array(items))
 }
 
-fn text_items(alloc: Global, texts: &[&str]) -> Result<Vec<Value>, AllocError>
-    ensures { IfOk result (λ items. map view items.items ≡ map (λ t. string t.now) texts.now) }
+fn text_items(alloc: Global, lines: &[&str]) -> Result<Vec<Value>, AllocError>
+    ensures { IfOk result (λ items. map view items.items ≡ map (λ t. string t.now) lines.now) }
 {
     let mut items = Vec::new(alloc);
-    for text in texts {
+    for text in lines {
         items.push(Value::try_from_str(alloc, *text)?)?;
     }
     Ok(items)

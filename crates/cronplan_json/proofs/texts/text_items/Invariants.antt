@@ -5,4 +5,4 @@ use Rattle.serde_json.specs.View.{view}
 use Rattle.cronplan_json.proofs.texts.text_items.Given as goal
 
 abbrev pub invariant-loop-text : goal.invariant-loop-text
-invariant-loop-text l = map view l.items.items ≡ map (λ t. string t.now) (take l.text-index l.texts)
+invariant-loop-text l = map view l.items.items ≡ map (λ t. string t.now) (take l.text-index l.lines)
