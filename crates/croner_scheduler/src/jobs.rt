@@ -271,6 +271,7 @@ fn make_room<J: Drop, T: Drop>(
     ensures room { OnOk result ((0 < ids.new.room) × (vec_len places.new < vec_capacity places.new)) }
     ensures no_less { min ids.old.room (row_room places.old) ≤ min ids.new.room (row_room places.new) }
     ensures full { OnErr result (min ids.old.room (row_room places.old) ≡ 0) }
+    ensures unlisted { vec_len places.old ≤ count → ids.old.room ≤ ids.new.room }
     ensures few_gone { OnOk result (count ≡ length (entries_in ids.old.items places.old.items) → (vec_len places.old < vec_capacity places.old) ⊎ FewGone (vec_len places.new) count) }
 {
     thin_out(ids, places, count)?;
@@ -279,7 +280,7 @@ fn make_room<J: Drop, T: Drop>(
 }
 
 // Takes out the empty places where there is no room for another and an eighth of the places is empty. The ids are listed then, for which
-// memory may lack.
+// memory may lack; where no place is empty they stay as they are.
 #[tactic(auto, using(crate::proofs::TakenOut::same_row))]
 fn thin_out<J: Drop, T: Drop>(
     ids: &mut Ids,
@@ -291,6 +292,7 @@ fn thin_out<J: Drop, T: Drop>(
     ensures next_id { ids.new.next ≡ ids.old.next }
     ensures no_less { min ids.old.room (row_room places.old) ≤ min ids.new.room (row_room places.new) }
     ensures full { OnErr result (min ids.old.room (row_room places.old) ≡ 0) }
+    ensures unlisted { vec_len places.old ≤ count → ids.old.room ≤ ids.new.room }
     ensures few_gone { OnOk result (count ≡ length (entries_in ids.old.items places.old.items) → (vec_len places.old < vec_capacity places.old) ⊎ FewGone (vec_len places.new) count) }
 {
     if has_many_gone(places.len(), places.capacity(), count) {

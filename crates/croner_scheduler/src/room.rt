@@ -16,10 +16,10 @@ const LEAST_ROOM: usize = 4;
 // Of `len`, with room for `capacity`, these are `left`: whether the others, which are gone, are to be taken out.
 pub(crate) fn has_many_gone(len: usize, capacity: usize, left: usize) -> bool
     ensures full { IsTrue result → capacity ≤ len }
-    ensures left { IsTrue result → left ≤ len }
+    ensures left { IsTrue result → left < len }
     ensures few { IsFalse result → (len < capacity) ⊎ FewGone len left }
 {
-    capacity <= len && left <= len - len / GONE_PART
+    capacity <= len && left < len && left <= len - len / GONE_PART
 }
 
 // For how many besides so many room is taken.
