@@ -158,16 +158,33 @@ fn folder_fails<'s, 't, S: Sources, F: Form, W: Write, N: Write>(
             return Ok(true);
         }
     };
+    all_fails(sources, kinds, file, names.as_slice(), sink, notes)
+}
+
+// Tells of the files of these names, which are all in a folder, and answers whether one of them failed. Where none is read, that is noted.
+fn all_fails<'s, 't, S: Sources, F: Form, W: Write, N: Write>(
+    sources: &S,
+    kinds: &TermsByKind<'s, 't>,
+    folder: Asked<'_>,
+    names: &[String],
+    sink: &mut Sink<'s, 't, F, W>,
+    notes: &mut N,
+) -> io::Result<bool>
+    ensures { (m : Contents) → HaveContents (S.holds sources.now) (S.says_unfit sources.now) (S.says_folder sources.now) (S.lists sources.now) m →
+        IfOk result (λ is_failed. is_failed ≡ false → TakesInTurn (IsToldEntry F.takes F.ends_file kinds.now m (asked_seen folder.entry))
+        (state_of W.contents sink.old.form sink.old.progress sink.old.output) (map (λ name. string_bytes name) names.now)
+        (state_of W.contents sink.new.form sink.new.progress sink.new.output)) }
+{
     let before = sink.progress.files;
-    let is_failed = any_fails(sources, kinds, file, names.as_slice(), sink, notes)?;
-    note_if(
-        !is_failed && sink.progress.files == before,
-        kinds,
-        file.name,
-        NO_FILE,
-        notes,
-    )?;
+    let is_failed = any_fails(sources, kinds, folder, names, sink, notes)?;
+    let is_none = is_none_read(is_failed, before, sink.progress.files);
+    note_if(is_none, kinds, folder.name, NO_FILE, notes)?;
     Ok(is_failed)
+}
+
+// Whether no file was read, where so many files were begun before and after, and none failed.
+fn is_none_read(is_failed: bool, before: u64, after: u64) -> bool {
+    !is_failed && before == after
 }
 
 // Notes something of a file, if it holds.
