@@ -46,7 +46,7 @@ def time_text(plan, second):
 
 def both_text(plan, second):
     """The same, and after it what the clock of a second zone shows, where one is shown."""
-    beside = f" = {time_text(plan.beside, second).partition(' ')[2]}" if plan.beside else ""
+    beside = f" = {time_text(plan.beside, second)}" if plan.beside else ""
     return time_text(plan, second) + beside
 
 
@@ -155,8 +155,9 @@ def together_lines(plan):
         return ["no two jobs start together"]
     found = ["jobs that start together:"]
     for places, count, first in sets:
-        labels = " + ".join(plan.jobs[place].label for place in places)
-        found.append(f"  {labels}  {'once' if count == 1 else f'{count} times'}, first {time_text(plan, first)}")
+        jobs = [plan.jobs[place] for place in places]
+        names = " + ".join(f"{job.label} {excerpt(shown(job.title))}" for job in jobs)
+        found.append(f"  {names}  {'once' if count == 1 else f'{count} times'}, first {time_text(plan, first)}")
     return found
 
 

@@ -1,13 +1,16 @@
 -- Worked rows of what a plan answers, computed from the definitions.
 use Rattle.std.proofs.Common.{◌≡◌, ◌<◌, ℕ, pos, true, false, [], ◌∷◌, ◌++◌, arith, refl}
+use Rattle.std.specs.Char.{encode_utf8}
 use Rattle.std.specs.Fmt.{digits}
 use Rattle.std.specs.Prelude.{codes}
+use Rattle.std.specs.Str.{chars}
 use Rattle.croner_base.specs.declared.time.civil.Weekday.TheVariants as weekdays
 use Rattle.cronplan.specs.declared.windows.Bound.{Bound}
 use Rattle.cronplan.specs.declared.windows.Bound.TheVariants as bounds
 use Rattle.cronplan_forms.specs.declared.answers.quiet.ShownWindow.{ShownWindow}
 use Rattle.cronplan_forms.specs.declared.clock.ClockTime.{ClockTime}
-use Rattle.cronplan_forms.specs.Answers.{starts_text, hour_line, times_text, joined, joined_after, added_label, busy_text, cut_line, no_moment, no_window, silence_text, window_text}
+use Rattle.cronplan_forms.specs.declared.job.Job.{Job}
+use Rattle.cronplan_forms.specs.Answers.{starts_text, hour_line, times_text, job_name, joined, joined_after, added_name, label_text, quoted_title, busy_text, cut_line, no_moment, no_window, silence_text, window_text}
 use Rattle.cronplan_forms.specs.Apart.{set_apart}
 use Rattle.cronplan_forms.specs.Clocks.{ahead_text, clock_text, lasting_text}
 use Rattle.cronplan_forms.specs.DateNames.{short_month_name}
@@ -34,9 +37,10 @@ two_hours_ahead = refl
 march : short_month_name 3 ≡ codes "Mar"
 march = refl
 
-two_jobs : joined (codes "a:1" ∷ codes "b:2" ∷ []) (0 ∷ 1 ∷ []) ≡ codes "a:1 + b:2"
-unfolding joined_after added_label
-two_jobs = refl
+two_jobs : (one other : Job) → label_text one ≡ codes "a:1" → one.title.now ≡ codes "dump" → label_text other ≡ codes "b:2" → other.title.now ≡ codes "copy"
+    → joined (one ∷ other ∷ []) (0 ∷ 1 ∷ []) ≡ codes "a:1 'dump' + b:2 'copy'"
+unfolding joined_after added_name job_name quoted_title chars encode_utf8
+two_jobs one other label title other_label other_title = rw (label, title, other_label, other_title) refl
 
 at_one_moment : times_text 1 ≡ codes "  once"
 at_one_moment = refl

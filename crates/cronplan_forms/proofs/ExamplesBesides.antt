@@ -36,7 +36,7 @@ helsinki = record {
   ahead = record { seconds = pos 10_800 };
 }
 
-both : shown_time_text (record { own = stockholm; beside = besides.Shown helsinki }) ≡ codes "Sun 2027-03-28 03:00:00 +02:00 = 2027-03-28 04:00:00 +03:00"
+both : shown_time_text (record { own = stockholm; beside = besides.Shown helsinki }) ≡ codes "Sun 2027-03-28 03:00:00 +02:00 = Sun 2027-03-28 04:00:00 +03:00"
 unfolding digits
 both = refl
 

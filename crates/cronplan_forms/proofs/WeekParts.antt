@@ -14,7 +14,7 @@ use Rattle.cronplan_forms.specs.declared.week.changes.ShownChange.{ShownChange}
 use Rattle.cronplan_forms.specs.declared.week.Signs.{Signs}
 use Rattle.cronplan_forms.specs.declared.week.WeekDay.{WeekDay}
 use Rattle.cronplan_forms.specs.declared.answers.together.ShownSet.{ShownSet}
-use Rattle.cronplan_forms.specs.Answers.{moment_line, hour_line, hour_lines, left_out_line, added_label, set_line}
+use Rattle.cronplan_forms.specs.Answers.{moment_line, hour_line, hour_lines, left_out_line, added_name, set_line}
 use Rattle.cronplan_forms.specs.Weeks.{sign_of, row_text, step_text, change_text, dropped_at}
 
 -- one element more
@@ -59,10 +59,10 @@ hours_step xs i x h is =
     ∙ ap (λ (y : ℕ). hour_line i y ++ hour_lines (suc i) (drop (i + 1) xs)) (sym is)
     ∙ ap (λ (n : ℕ). hour_line i x ++ hour_lines n (drop (i + 1) xs)) next
 
-pub sets_step : (labels : List (List ℕ)) (xs : List ShownSet) (i : ℕ) (x : ShownSet) → i < length xs → x ≡ get_or xs i x
-    → flat_map (set_line labels) (drop i xs) ≡ set_line labels x ++ flat_map (set_line labels) (drop (i + 1) xs)
-sets_step labels xs i x h is = step (set_line labels) xs i x h is
+pub sets_step : (jobs : List Job) (xs : List ShownSet) (i : ℕ) (x : ShownSet) → i < length xs → x ≡ get_or xs i x
+    → flat_map (set_line jobs) (drop i xs) ≡ set_line jobs x ++ flat_map (set_line jobs) (drop (i + 1) xs)
+sets_step jobs xs i x h is = step (set_line jobs) xs i x h is
 
-pub labels_step : (labels : List (List ℕ)) (xs : List ℕ) (i x : ℕ) → i < length xs → x ≡ get_or xs i x
-    → flat_map (added_label labels) (drop i xs) ≡ added_label labels x ++ flat_map (added_label labels) (drop (i + 1) xs)
-labels_step labels xs i x h is = step (added_label labels) xs i x h is
+pub names_step : (jobs : List Job) (xs : List ℕ) (i x : ℕ) → i < length xs → x ≡ get_or xs i x
+    → flat_map (added_name jobs) (drop i xs) ≡ added_name jobs x ++ flat_map (added_name jobs) (drop (i + 1) xs)
+names_step jobs xs i x h is = step (added_name jobs) xs i x h is

@@ -196,30 +196,30 @@ pub record IsTogetherShown (z : Zone) (p : Plan) (shown : List ShownSet) : Type 
   pub sets : AreTogether p.starts.items (map (λ s. s.set.now) shown)
   pub each : All (IsShownSet z) shown
 
--- those of the jobs at these places after the first
-unfoldable pub added_label : List (List ℕ) → ℕ → List ℕ
-added_label labels k = codes " + " ++ label_at labels k
+-- what the jobs at these places are called, a plus sign between two of them
+unfoldable pub added_name : List Job → ℕ → List ℕ
+added_name jobs k = codes " + " ++ job_name jobs k
 
-unfoldable pub joined_after : List (List ℕ) → List ℕ → List ℕ
-joined_after labels places = flat_map (added_label labels) places
+unfoldable pub joined_after : List Job → List ℕ → List ℕ
+joined_after jobs places = flat_map (added_name jobs) places
 
-abbrev pub joined : List (List ℕ) → List ℕ → List ℕ
-joined labels [] = []
-joined labels (k ∷ ks) = label_at labels k ++ joined_after labels ks
+abbrev pub joined : List Job → List ℕ → List ℕ
+joined jobs [] = []
+joined jobs (k ∷ ks) = job_name jobs k ++ joined_after jobs ks
 
 -- how many moments there are
 abbrev pub times_text : ℕ → List ℕ
 times_text n = if n == 1 then codes "  once" else codes "  " ++ (decimal n ++ codes " times")
 
 -- a set as a line
-unfoldable pub set_line : List (List ℕ) → ShownSet → List ℕ
-set_line labels s =
-    codes "  " ++ (joined labels s.set.now.jobs.items ++ (times_text s.set.now.moments ++ (codes ", first " ++ (clock_time_text s.first ++ codes "\n"))))
+unfoldable pub set_line : List Job → ShownSet → List ℕ
+set_line jobs s =
+    codes "  " ++ (joined jobs s.set.now.jobs.items ++ (times_text s.set.now.moments ++ (codes ", first " ++ (clock_time_text s.first ++ codes "\n"))))
 
-unfoldable pub set_lines : List (List ℕ) → List ShownSet → List ℕ
-set_lines labels shown = flat_map (set_line labels) shown
+unfoldable pub set_lines : List Job → List ShownSet → List ℕ
+set_lines jobs shown = flat_map (set_line jobs) shown
 
 -- all sets, and what stands in front of them, or where there is none
-abbrev pub together_text : List (List ℕ) → List ShownSet → List ℕ
-together_text labels [] = codes "no two jobs start together\n"
-together_text labels (s ∷ ss) = codes "jobs that start together:\n" ++ set_lines labels (s ∷ ss)
+abbrev pub together_text : List Job → List ShownSet → List ℕ
+together_text jobs [] = codes "no two jobs start together\n"
+together_text jobs (s ∷ ss) = codes "jobs that start together:\n" ++ set_lines jobs (s ∷ ss)

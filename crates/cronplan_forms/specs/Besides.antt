@@ -1,7 +1,6 @@
 -- What the clock of a second zone shows, beside that of a plan. Source: this crate's documentation.
 use Rattle.std.specs.Prelude.{◌≡◌, ℕ, ℤ, List, [], ◌++◌, codes, Option, Some, None, option_copied}
 use Rattle.croner_base.specs.declared.time.table.ClockTable.{ClockTable}
-use Rattle.croner_base.specs.CivilText.{date_text, time_text}
 use Rattle.croner_base.specs.TableZone.{table_zone}
 use Rattle.cronplan_forms.specs.declared.beside.Beside.{Beside}
 use Rattle.cronplan_forms.specs.declared.beside.Beside.TheVariants as besides
@@ -9,7 +8,7 @@ use Rattle.cronplan_forms.specs.declared.beside.OtherClock.{OtherClock}
 use Rattle.cronplan_forms.specs.declared.beside.ShownTime.{ShownTime}
 use Rattle.cronplan_forms.specs.declared.clock.ClockTime.{ClockTime}
 use Rattle.cronplan_forms.specs.declared.view.View.{View}
-use Rattle.cronplan_forms.specs.Clocks.{IsClockAt, ahead_text, clock_time_text}
+use Rattle.cronplan_forms.specs.Clocks.{IsClockAt, clock_time_text}
 
 -- what the clock of a table shows at a second, if there is one: else it isn't followed
 abbrev pub IsBesideOn : Option ClockTable → ℤ → Beside → Type 0
@@ -26,13 +25,11 @@ pub record IsShownTime (v : View) (second : ℤ) (t : ShownTime) : Type 0 where
   pub own_is : IsClockAt (table_zone v.table.now) second t.own
   pub beside_is : IsBeside v.other second t.beside
 
--- after an equals sign the date, the time and how far it is ahead of UTC; nothing where none is shown or followed
+-- the same text of that clock after an equals sign; nothing where none is shown or followed
 abbrev pub beside_text : Beside → List ℕ
 beside_text besides.Nothing = []
 beside_text besides.Unfollowed = []
-beside_text (besides.Shown t) =
-    codes " = " ++ (date_text t.civil.date.year t.civil.date.month t.civil.date.day
-    ++ (codes " " ++ (time_text t.civil.time.hour t.civil.time.minute t.civil.time.second ++ (codes " " ++ ahead_text t.ahead.seconds))))
+beside_text (besides.Shown t) = codes " = " ++ clock_time_text t
 
 -- both as a text
 abbrev pub shown_time_text : ShownTime → List ℕ

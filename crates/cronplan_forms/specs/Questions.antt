@@ -9,7 +9,7 @@ use Rattle.cronplan_forms.specs.declared.month.Daily.{Daily}
 use Rattle.cronplan_forms.specs.declared.month.Month.{Month}
 use Rattle.cronplan_forms.specs.declared.view.View.{View}
 use Rattle.cronplan_forms.specs.declared.week.Signs.{Signs}
-use Rattle.cronplan_forms.specs.Answers.{IsBusy, busy_text, IsTogetherShown, labels_of, shows_all, together_text}
+use Rattle.cronplan_forms.specs.Answers.{IsBusy, busy_text, IsTogetherShown, shows_all, together_text}
 use Rattle.cronplan_forms.specs.Apart.{set_apart}
 use Rattle.cronplan_forms.specs.Months.{months_text}
 use Rattle.cronplan_forms.specs.PlanMonths.{ArePlanMonths}
@@ -42,7 +42,7 @@ IsBusyAnswer v (Some most) text =
 abbrev pub IsTogetherAnswer : View → Bool → List ℕ → Type 0
 IsTogetherAnswer v false text = text ≡ []
 IsTogetherAnswer v true text =
-    (shown : List ShownSet) × IsTogetherShown (table_zone v.table.now) v.plan.now shown × (text ≡ together_text (labels_of v.jobs.now) shown)
+    (shown : List ShownSet) × IsTogetherShown (table_zone v.table.now) v.plan.now shown × (text ≡ together_text v.jobs.now shown)
 
 -- ---- all of them
 

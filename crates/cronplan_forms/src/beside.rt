@@ -49,7 +49,7 @@ impl Beside {
 }
 
 /// A second, with what the clock of a plan shows then, and that of a second zone. As a text it is `Sun 2027-03-28 03:00:00 +02:00`, or with a
-/// second zone `Sun 2027-03-28 03:00:00 +02:00 = 2027-03-28 04:00:00 +03:00`.
+/// second zone `Sun 2027-03-28 03:00:00 +02:00 = Sun 2027-03-28 04:00:00 +03:00`.
 #[derive(Clone, Copy)]
 pub struct ShownTime {
     pub own: ClockTime,
@@ -76,11 +76,7 @@ impl fmt::Display for Beside {
 
     fn fmt<W: fmt::Write>(&self, f: &mut fmt::Formatter<W>) -> fmt::Result {
         match self {
-            Beside::Shown(time) => {
-                let (date, clock) = (time.civil.date(), time.civil.time());
-                let ahead = time.ahead;
-                write!(f, " = {date} {clock} {ahead}")
-            }
+            Beside::Shown(time) => write!(f, " = {time}"),
             Beside::Nothing | Beside::Unfollowed => Ok(()),
         }
     }

@@ -2,13 +2,14 @@
 
 use super::often::push_often;
 use super::previous::push_previous;
-use super::{push_clock_in, window_end};
+use super::{push_clock_in, weekday_text, window_end};
 use crate::off::Off;
 use croncheck_changes::changes::told::push_minute;
 use croncheck_report::report::JobReport;
 use croncheck_report::shared::Shared;
 use croncheck_report::told::Told;
 use croncheck_runs::runs::{End, Listing, MOST_RUNS, Run, Runs};
+use croner::time::CronDateTime;
 use cronplan_forms::Ahead;
 use jiff::Timestamp;
 use std::alloc::{AllocError, Global};
@@ -87,8 +88,9 @@ pub fn push_other_clock(
             seconds: i64::from(zone.to_offset(instant).seconds()),
         },
     );
+    let weekday = weekday_text(shared.language, civil.civil_weekday());
     let (date, time) = (civil.date(), civil.time());
-    write!(text, "  = {date} {time} {ahead}")
+    write!(text, "  = {weekday} {date} {time} {ahead}")
 }
 
 // Puts after a text how far off a second is, if that is to be told.

@@ -2,8 +2,9 @@
 ghost use Rattle.std.specs.Prelude.{◌≡◌, ◌++◌, IfOk, List, OnOk, map, string_bytes};
 ghost use Rattle.std.specs.List.{All};
 ghost use Rattle.croner_base.specs.TableZone.{table_zone};
-ghost use Rattle.cronplan_forms.specs.Answers.{IsShownSet, IsTogetherShown, labels_of, label_at, label_text, added_label, joined, joined_after, set_line, set_lines, times_text, together_text};
+ghost use Rattle.cronplan_forms.specs.Answers.{IsShownSet, IsTogetherShown, labels_of, label_at, label_text, added_name, joined, joined_after, set_line, set_lines, times_text, together_text};
 
+use crate::answers::left_out::push_job_name;
 use crate::clock::ClockTime;
 use crate::job::Job;
 use crate::view::View;
@@ -18,12 +19,12 @@ pub struct ShownSet<'s> {
     pub first: ClockTime,
 }
 
-/// The sets of jobs that start at one moment, the set with the most moments first. Each has the files and lines of its jobs, how many
-/// moments have exactly these jobs, and the first of them.
+/// The sets of jobs that start at one moment, the set with the most moments first. Each has the files, lines and titles of its jobs,
+/// how many moments have exactly these jobs, and the first of them.
 ///
 /// The only error is lack of memory.
 pub fn together_text(alloc: Global, view: View<'_>) -> Result<String, AllocError>
-    ensures { IfOk result (λ t. (shown : List ShownSet) × IsTogetherShown (table_zone view.entry.table.now) view.entry.plan.now shown × (string_bytes t ≡ together_text (labels_of view.entry.jobs.now) shown)) }
+    ensures { IfOk result (λ t. (shown : List ShownSet) × IsTogetherShown (table_zone view.entry.table.now) view.entry.plan.now shown × (string_bytes t ≡ together_text view.entry.jobs.now shown)) }
 {
     let sets = view.plan.sets_together(alloc)?;
     let shown = shown_sets(alloc, view.table, sets.as_slice())?;
@@ -61,7 +62,7 @@ fn text_of_sets(
     jobs: &[Job<'_>],
     sets: &[ShownSet<'_>],
 ) -> Result<String, AllocError>
-    ensures { IfOk result (λ t. string_bytes t ≡ together_text (labels_of jobs.now) sets.now) }
+    ensures { IfOk result (λ t. string_bytes t ≡ together_text jobs.now sets.now) }
 {
     if sets.is_empty() {
         return String::from_str(alloc, "no two jobs start together\n");
@@ -73,7 +74,7 @@ fn text_of_sets(
 
 #[tactic(auto, using(crate::proofs::WeekParts::sets_step), unfolding(crate::specs::Answers::set_lines))]
 fn push_sets(text: &mut String, jobs: &[Job<'_>], sets: &[ShownSet<'_>]) -> Result<(), AllocError>
-    ensures { OnOk result (string_bytes text.new ≡ string_bytes text.old ++ set_lines (labels_of jobs.now) sets.now) }
+    ensures { OnOk result (string_bytes text.new ≡ string_bytes text.old ++ set_lines jobs.now sets.now) }
 {
     for set in sets {
         push_set(text, jobs, *set)?;
@@ -83,10 +84,10 @@ fn push_sets(text: &mut String, jobs: &[Job<'_>], sets: &[ShownSet<'_>]) -> Resu
 
 #[tactic(auto, unfolding(crate::specs::Answers::set_line))]
 fn push_set(text: &mut String, jobs: &[Job<'_>], set: ShownSet<'_>) -> Result<(), AllocError>
-    ensures { OnOk result (string_bytes text.new ≡ string_bytes text.old ++ set_line (labels_of jobs.now) set.entry) }
+    ensures { OnOk result (string_bytes text.new ≡ string_bytes text.old ++ set_line jobs.now set.entry) }
 {
     text.push_str("  ")?;
-    push_labels(text, jobs, set.set.jobs.as_slice())?;
+    push_names(text, jobs, set.set.jobs.as_slice())?;
     push_times(text, set.set.moments)?;
     let first = set.first;
     write!(text, ", first {first}\n")
@@ -102,22 +103,22 @@ fn push_times(text: &mut String, count: u64) -> Result<(), AllocError>
     write!(text, "  {count} times")
 }
 
-// Appends the labels of the jobs at these places to a text, a plus sign between two of them.
-fn push_labels(text: &mut String, jobs: &[Job<'_>], places: &[usize]) -> Result<(), AllocError>
-    ensures { OnOk result (string_bytes text.new ≡ string_bytes text.old ++ joined (labels_of jobs.now) places.now) }
+// Appends what the jobs at these places are called to a text, a plus sign between two of them.
+fn push_names(text: &mut String, jobs: &[Job<'_>], places: &[usize]) -> Result<(), AllocError>
+    ensures { OnOk result (string_bytes text.new ≡ string_bytes text.old ++ joined jobs.now places.now) }
 {
     match places.split_first() {
         Some((first, others)) => {
-            push_label(text, jobs, *first)?;
+            push_job_name(text, jobs, *first)?;
             push_others(text, jobs, others)
         }
         None => Ok(()),
     }
 }
 
-#[tactic(auto, using(crate::proofs::WeekParts::labels_step), unfolding(crate::specs::Answers::joined_after))]
+#[tactic(auto, using(crate::proofs::WeekParts::names_step), unfolding(crate::specs::Answers::joined_after))]
 fn push_others(text: &mut String, jobs: &[Job<'_>], places: &[usize]) -> Result<(), AllocError>
-    ensures { OnOk result (string_bytes text.new ≡ string_bytes text.old ++ joined_after (labels_of jobs.now) places.now) }
+    ensures { OnOk result (string_bytes text.new ≡ string_bytes text.old ++ joined_after jobs.now places.now) }
 {
     for place in places {
         push_added(text, jobs, *place)?;
@@ -125,12 +126,12 @@ fn push_others(text: &mut String, jobs: &[Job<'_>], places: &[usize]) -> Result<
     Ok(())
 }
 
-#[tactic(auto, unfolding(crate::specs::Answers::added_label))]
+#[tactic(auto, unfolding(crate::specs::Answers::added_name))]
 fn push_added(text: &mut String, jobs: &[Job<'_>], place: usize) -> Result<(), AllocError>
-    ensures { OnOk result (string_bytes text.new ≡ string_bytes text.old ++ added_label (labels_of jobs.now) place) }
+    ensures { OnOk result (string_bytes text.new ≡ string_bytes text.old ++ added_name jobs.now place) }
 {
     text.push_str(" + ")?;
-    push_label(text, jobs, place)
+    push_job_name(text, jobs, place)
 }
 
 /// Appends the file and the line of the job at a place to a text; nothing where there is none.
