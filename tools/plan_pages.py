@@ -93,7 +93,8 @@ def ignored_lines(case):
                     grave.append("starts as the machine does: it has no time in a plan")
                 found += [plain(f"{file}:{line} {text}") for text in grave]
         whole = [plain(f"{name}: {it['text']}{name_after(it)}") for told in files if told["file"] == name for it in told["findings"]]
-        found += whole + (["its jobs are in this plan, as cron would start them once that is mended"] if whole else [])
+        has_jobs = any(job.file == name for job in case.files.jobs)
+        found += whole + (["its jobs are in this plan, as cron would start them once that is mended"] if whole and has_jobs else [])
     return found
 
 

@@ -199,10 +199,8 @@ fn write_page(
     let names = names_of(rt, call, kinds)?;
     let planner = PagePlanner::new(rt.alloc(), asked, names);
     let taken = take_files(rt, kinds, sources, planner)?;
-    let Ok(told) = str::from_utf8(taken.sink.out().as_slice()) else {
-        return Err(Problem::Unwritten(io::Error::from(ErrorKind::InvalidData)));
-    };
-    let Ok(ignored) = lines_in(rt, told) else {
+    let told = text_of(taken.sink.out().as_slice())?;
+    let Ok(ignored) = page_lines_in(rt, told) else {
         return Err(Problem::OutOfMemory);
     };
     let terms = kinds.of(Dialect::User);
@@ -214,8 +212,16 @@ fn write_page(
     Ok(taken.status)
 }
 
+// What was told, which is UTF-8.
+fn text_of(told: &[u8]) -> Result<&str, Problem> {
+    match str::from_utf8(told) {
+        Ok(text) => Ok(text),
+        Err(_) => Err(Problem::Unwritten(io::Error::from(ErrorKind::InvalidData))),
+    }
+}
+
 // The lines of a text that have something, as a page has them.
-fn lines_in<'t>(rt: &HostRuntime, text: &'t str) -> Result<Vec<PageLine<'t>>, AllocError> {
+fn page_lines_in<'t>(rt: &HostRuntime, text: &'t str) -> Result<Vec<PageLine<'t>>, AllocError> {
     let mut lines = Vec::new(rt.alloc());
     for rest in text.lines() {
         if !rest.is_empty() {
@@ -225,7 +231,18 @@ fn lines_in<'t>(rt: &HostRuntime, text: &'t str) -> Result<Vec<PageLine<'t>>, Al
     Ok(lines)
 }
 
-// Writes the plan of the files' jobs as JSON.
+// The same, without the blanks around each.
+fn lines_in<'t>(rt: &HostRuntime, text: &'t str) -> Result<Vec<&'t str>, AllocError> {
+    let mut lines = Vec::new(rt.alloc());
+    for line in text.lines() {
+        if !line.is_empty() {
+            lines.push(line.trim())?;
+        }
+    }
+    Ok(lines)
+}
+
+// Writes the plan of the files' jobs as JSON, with what cron ignores, as it was told.
 fn write_json(
     rt: &HostRuntime,
     call: &Call<'_>,
@@ -235,8 +252,12 @@ fn write_json(
 ) -> Result<u8, Problem> {
     let planner = planner_of(rt, call, kinds, asked)?;
     let taken = take_files(rt, kinds, sources, planner)?;
+    let told = text_of(taken.sink.out().as_slice())?;
+    let Ok(read_first) = lines_in(rt, told) else {
+        return Err(Problem::OutOfMemory);
+    };
     let terms = kinds.of(Dialect::User);
-    let Ok(text) = taken.sink.form().json(&terms) else {
+    let Ok(text) = taken.sink.form().json(&terms, read_first.as_slice()) else {
         return Err(Problem::OutOfMemory);
     };
     write_text(rt, call, text.as_str())?;

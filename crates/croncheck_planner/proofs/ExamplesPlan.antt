@@ -14,7 +14,7 @@ use Rattle.croncheck_planner.specs.Dropped.{dropped_from}
 use Rattle.croncheck_planner.specs.Plan.{first_after, end_after, whole_end, end_up_to, starts_within}
 use Rattle.croncheck_planner.specs.PlanAnswers.{clock_head, unfollowed_text}
 use Rattle.croncheck_planner.specs.PlanList.{over_text, more_text, whose_by_kinds, line_text}
-use Rattle.croncheck_planner.specs.Planner.{label_text, above_at, planned_ending}
+use Rattle.croncheck_planner.specs.Planner.{label_text, above_at, planned_ending, with_number}
 use Rattle.croncheck_output.specs.Escaped.{shown_from}
 use Rattle.croncheck_planner.specs.Titles.{heading, title_of, title_text}
 
@@ -240,9 +240,20 @@ of_no_job = refl
 
 -- ---- the end of a file
 
-a_file_that_cron_takes : planned_ending [] ≡ []
+a_file_that_cron_takes : planned_ending true [] ≡ []
 a_file_that_cron_takes = refl
 
-a_file_that_cron_ignores : planned_ending (codes "a: cron ignores the whole file\n")
+a_file_that_cron_ignores : planned_ending true (codes "a: cron ignores the whole file\n")
     ≡ codes "a: cron ignores the whole file\n  its jobs are in this plan, as cron would start them once that is mended\n"
 a_file_that_cron_ignores = refl
+
+-- none of its jobs is in the plan
+one_without_jobs : planned_ending false (codes "a: cron ignores the whole file\n") ≡ codes "a: cron ignores the whole file\n"
+one_without_jobs = refl
+
+-- the third file is ignored, as the first is; its next line changes nothing
+one_more_file : with_number 3 (1 ∷ []) ≡ 1 ∷ 3 ∷ []
+one_more_file = refl
+
+one_more_line : with_number 3 (1 ∷ 3 ∷ []) ≡ 1 ∷ 3 ∷ []
+one_more_line = refl

@@ -12,15 +12,15 @@ use Rattle.croncheck_planner.specs.Planner.{Jobs}
 use Rattle.croncheck_report.specs.declared.report.Report.{Report}
 use Rattle.croncheck_report.specs.declared.settings.Settings.{Settings}
 
-pub kept_same : (s : Settings) (asked asked' : PlanAsked) (above above' file file' : List ℕ) (line line' : ℕ) (is : Line) (job : Option Cron) (old old' new new' : Jobs) (b : Bool)
-    → asked' ≡ asked → above' ≡ above → file' ≡ file → line' ≡ line → old' ≡ old → new' ≡ new → KeepsIf s asked' above' file' line' is job old' new' b → KeepsIf s asked above file line is job old new b
-kept_same s asked asked' above above' file file' line line' is job old old' new new' b a u f l o n h =
-    subst (λ (x : PlanAsked). KeepsIf s x above file line is job old new b) a
-    (subst (λ (x : List ℕ). KeepsIf s asked' x file line is job old new b) u
-    (subst (λ (x : List ℕ). KeepsIf s asked' above' x line is job old new b) f
-    (subst (λ (x : ℕ). KeepsIf s asked' above' file' x is job old new b) l
-    (subst (λ (x : Jobs). KeepsIf s asked' above' file' line' is job x new b) o
-    (subst (λ (x : Jobs). KeepsIf s asked' above' file' line' is job old' x b) n h)))))
+pub kept_same : (s : Settings) (asked asked' : PlanAsked) (above above' file file' : List ℕ) (number line line' : ℕ) (is : Line) (job : Option Cron) (old old' new new' : Jobs) (b : Bool)
+    → asked' ≡ asked → above' ≡ above → file' ≡ file → line' ≡ line → old' ≡ old → new' ≡ new → KeepsIf s asked' above' number file' line' is job old' new' b → KeepsIf s asked above number file line is job old new b
+kept_same s asked asked' above above' file file' number line line' is job old old' new new' b a u f l o n h =
+    subst (λ (x : PlanAsked). KeepsIf s x above number file line is job old new b) a
+    (subst (λ (x : List ℕ). KeepsIf s asked' x number file line is job old new b) u
+    (subst (λ (x : List ℕ). KeepsIf s asked' above' number x line is job old new b) f
+    (subst (λ (x : ℕ). KeepsIf s asked' above' number file' x is job old new b) l
+    (subst (λ (x : Jobs). KeepsIf s asked' above' number file' line' is job x new b) o
+    (subst (λ (x : Jobs). KeepsIf s asked' above' number file' line' is job old' x b) n h)))))
 
 pub tells_same : (file file' : List ℕ) (line line' : ℕ) (b : Bool) (report : Report) (found : Vec Finding Global) (old old' new : List (Vec Finding Global)) (before after : Written)
     → file' ≡ file → line' ≡ line → old' ≡ old → TellsLine file' line' b report found old' new before after → TellsLine file line b report found old new before after

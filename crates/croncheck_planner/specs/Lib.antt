@@ -1,4 +1,5 @@
 pub mod Dropped
+pub mod Ignored
 pub mod PagePlans
 pub mod Plan
 pub mod PlanAnswers

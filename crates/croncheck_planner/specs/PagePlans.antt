@@ -1,8 +1,7 @@
 -- What is taken of files for the page of a plan. Source: docs/CRONTAB.md ("A plan"), and this crate's documentation of `PagePlanner`.
-use Rattle.std.specs.Prelude.{◌≡◌, ℕ, Bool, true, false, List, [], ◌∷◌, ◌++◌, codes, map, filter, Option, Some, None, string_bytes, unwrap_or, if◌then◌else◌}
+use Rattle.std.specs.Prelude.{◌≡◌, ℕ, Bool, true, false, List, [], ◌∷◌, ◌++◌, map, filter, Option, Some, None, string_bytes, unwrap_or}
 use Rattle.std.specs.declared.alloc.Global.{Global}
 use Rattle.std.specs.declared.vec.Vec.{Vec}
-use Rattle.std.specs.List.{flat_map}
 use Rattle.croner.specs.declared.job.Cron.{Cron}
 use Rattle.crontab.specs.declared.content.Outcome.{Outcome}
 use Rattle.crontab.specs.declared.line.Entry.{Entry}
@@ -16,16 +15,13 @@ use Rattle.croncheck_output.specs.declared.severity.Severity.TheVariants as seve
 use Rattle.cronplan_forms.specs.declared.asked.PlanAsked.{PlanAsked}
 use Rattle.croncheck_planner.specs.declared.planner.page.PagePlanner.{PagePlanner}
 use Rattle.croncheck_report.specs.declared.report.Report.{Report}
-use Rattle.croncheck_report.specs.declared.report.Report.TheVariants as reports
 use Rattle.croncheck_runs.specs.declared.runs.Listing.TheVariants as listings
 use Rattle.croncheck_report.specs.declared.settings.Settings.{Settings}
-use Rattle.croncheck_report.specs.declared.told.Told.{Told}
-use Rattle.croncheck_report.specs.declared.told.Told.TheVariants as tolds
 use Rattle.croncheck_findings.specs.Findings.{findings_seen, findings_of_line}
 use Rattle.croncheck_output.specs.Output.{Written, WritesApart}
+use Rattle.croncheck_planner.specs.Ignored.{ignored_text}
 use Rattle.croncheck_planner.specs.Planner.{Jobs, Keeps, above_at, job_planned, jobs_seen}
 use Rattle.croncheck_reading.specs.Progress.{Reports}
-use Rattle.croncheck_shown.specs.Shown.{place_text}
 use Rattle.croncheck_reading.specs.Sink.{State}
 use Rattle.croncheck_reading.specs.Tally.{one_more}
 use Rattle.croncheck_planner.specs.Titles.{heading}
@@ -61,41 +57,6 @@ warnings_in found = map warning_told (filter (λ (f : Finding). is_warning f.sev
 abbrev pub warnings_of : List (Vec Finding Global) → List (List LineTold)
 warnings_of all = map (λ found. warnings_in found.items) all
 
--- ---- what cron ignores
-
--- cron makes something else of a line than its writer may think
-abbrev pub is_grave : Severity → Bool
-is_grave severities.Error = true
-is_grave severities.Warning = true
-is_grave severities.Note = false
-
--- a thing that is wrong, as a line
-abbrev pub ignored_line : List ℕ → ℕ → Finding → List ℕ
-ignored_line file line f = if is_grave f.severity then place_text file line ++ (string_bytes f.text ++ codes "\n") else []
-
--- it is of a job that starts as the machine does
-abbrev pub is_told_at_reboot : Told → Bool
-is_told_at_reboot tolds.Reboot = true
-is_told_at_reboot tolds.Nothing = false
-is_told_at_reboot (tolds.Runs text runs previous often is_past) = false
-
-abbrev pub is_at_reboot : Report → Bool
-is_at_reboot reports.Silent = false
-is_at_reboot (reports.Misnamed name) = false
-is_at_reboot (reports.Setting setting is_fed) = false
-is_at_reboot (reports.Job job) = is_told_at_reboot job.times
-is_at_reboot (reports.Refused start end why) = false
-
-unfoldable pub reboot_line : List ℕ → ℕ → List ℕ
-reboot_line file line = place_text file line ++ codes "starts as the machine does: it has no time in a plan\n"
-
-abbrev pub reboot_text : Bool → List ℕ → ℕ → List ℕ
-reboot_text is_so file line = if is_so then reboot_line file line else []
-
--- all that is wrong with a line, and that its job starts as the machine does, if it does
-abbrev pub ignored_text : List ℕ → ℕ → Report → List Finding → List ℕ
-ignored_text file line report found = flat_map (ignored_line file line) found ++ reboot_text (is_at_reboot report) file line
-
 -- ---- the lines of files
 
 -- one run of a job alone is found
@@ -103,9 +64,9 @@ abbrev pub brief_of : Settings → Settings
 brief_of s = record s { listing = listings.Count 1; previous = None; tells_often = false }
 
 -- the job that is planned, if there is one, is one more; and whether there is one
-abbrev pub KeepsIf : Settings → PlanAsked → List ℕ → List ℕ → ℕ → Line → Option Cron → Jobs → Jobs → Bool → Type 0
-KeepsIf s asked above file line is (Some cron) old new is_planned = (is_planned ≡ true) × Keeps s asked above file line is cron old new
-KeepsIf s asked above file line is None old new is_planned = (is_planned ≡ false) × (new ≡ old)
+abbrev pub KeepsIf : Settings → PlanAsked → List ℕ → ℕ → List ℕ → ℕ → Line → Option Cron → Jobs → Jobs → Bool → Type 0
+KeepsIf s asked above number file line is (Some cron) old new is_planned = (is_planned ≡ true) × Keeps s asked above number file line is cron old new
+KeepsIf s asked above number file line is None old new is_planned = (is_planned ≡ false) × (new ≡ old)
 
 -- what was found of the line of a job that is planned was kept, and what is wrong with any other was written
 abbrev pub TellsLine : List ℕ → ℕ → Bool → Report → Vec Finding Global → List (Vec Finding Global) → List (Vec Finding Global) → Written → Written → Type 0
@@ -121,7 +82,7 @@ pub record PlansLine (s : Settings) (old : State PagePlanner) (y : LineRead) (ne
   pub found : Vec Finding Global
   pub entry_is : IsEntryOf y entry
   pub read : IsOutcome s.parser y.is outcome
-  pub kept : KeepsIf s old.form.planner.asked (above_at old.stand.lines old.form.planner.above.items) old.stand.file.name (one_more old.stand.lines) y.is
+  pub kept : KeepsIf s old.form.planner.asked (above_at old.stand.lines old.form.planner.above.items) old.stand.files old.stand.file.name (one_more old.stand.lines) y.is
       (job_planned s y.is outcome) (jobs_seen old.form.planner.schedules old.form.planner.jobs) (jobs_seen new.form.planner.schedules new.form.planner.jobs) is_planned
   pub reported : Reports (brief_of s) old.stand y report new.stand
   pub found_is : findings_seen found.items ≡ findings_of_line y.bytes report

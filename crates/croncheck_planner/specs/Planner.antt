@@ -2,11 +2,13 @@
 use Rattle.std.specs.Prelude.{◌≡◌, ◌==◌, ℕ, Bool, true, false, List, [], ◌∷◌, ◌++◌, codes, map, Option, Some, None, string_bytes, unwrap_or, if◌then◌else◌}
 use Rattle.std.specs.declared.alloc.Global.{Global}
 use Rattle.std.specs.declared.vec.Vec.{Vec}
+use Rattle.std.specs.List.{list_any}
 use Rattle.std.specs.Str.{bytes_eq}
 use Rattle.croner_base.specs.TableZone.{table_zone}
 use Rattle.croner.specs.declared.job.Cron.{Cron}
 use Rattle.croner.specs.Views.{job_of}
 use Rattle.crontab.specs.declared.content.Outcome.{Outcome}
+use Rattle.crontab.specs.declared.line.Dialect.{Dialect}
 use Rattle.crontab.specs.declared.line.Entry.{Entry}
 use Rattle.crontab.specs.Checked.{LineRead, IsEntryOf}
 use Rattle.crontab.specs.Content.{IsOutcome}
@@ -23,9 +25,10 @@ use Rattle.croncheck_report.specs.declared.report.Report.{Report}
 use Rattle.croncheck_report.specs.declared.settings.Settings.{Settings}
 use Rattle.croncheck_report.specs.declared.shared.Shared.{Shared}
 use Rattle.croncheck_reading.specs.declared.tally.Tally.{Tally}
-use Rattle.croncheck_report.specs.FileSeen.{ending_of, with_report}
+use Rattle.croncheck_report.specs.FileSeen.{ending_of, is_ignored, with_report}
 use Rattle.croncheck_output.specs.Output.{Written, WritesApart}
 use Rattle.cronplan_forms.specs.Questions.{asks_none}
+use Rattle.croncheck_planner.specs.Ignored.{WritesIgnored}
 use Rattle.croncheck_planner.specs.Plan.{job_found, answered_until, IsFound, IsListed}
 use Rattle.croncheck_planner.specs.PlanAnswers.{WritesAnswers}
 use Rattle.croncheck_planner.specs.PlanList.{labels, whose_text, WritesList}
@@ -88,8 +91,9 @@ abbrev pub label_text : PlanAsked → List ℕ → ℕ → List ℕ → Line →
 label_text asked file line title is =
     codes "  " ++ (place_text file line ++ (front_text command_bytes title ++ (if asked.has_commands then command_after title (command_of is) else [])))
 
--- what is shown of a job
+-- what is shown of a job, with the number of its file among those that are read, from 1
 pub record JobShown : Type 0 where
+  pub number : ℕ
   pub line : ℕ
   pub file : List ℕ
   pub title : List ℕ
@@ -101,6 +105,7 @@ pub record JobShown : Type 0 where
 
 abbrev pub planned_seen : Planned → JobShown
 planned_seen p = record {
+  number = p.number;
   line = p.line;
   file = string_bytes p.file;
   title = string_bytes p.title;
@@ -111,9 +116,10 @@ planned_seen p = record {
   label = string_bytes p.label;
 }
 
--- the same of the job of a line at a place, above which this stands, whose times mean this in words
-abbrev pub job_shown : PlanAsked → List ℕ → ℕ → List ℕ → List ℕ → Line → JobShown
-job_shown asked file line above words is = record {
+-- the same of the job of a line at a place, in the file with a number, above which this stands, whose times mean this in words
+abbrev pub job_shown : PlanAsked → ℕ → List ℕ → ℕ → List ℕ → List ℕ → Line → JobShown
+job_shown asked number file line above words is = record {
+  number = number;
   line = line;
   file = file;
   title = spaced (title_of above is);
@@ -163,27 +169,32 @@ schedule_of (job task) cron = schedules.Crontab (record { cron = cron; is_starre
 schedule_of (pattern text) cron = schedules.Pattern cron
 schedule_of (refused fault) cron = schedules.Pattern cron
 
--- one more job, with what is shown of it at a place
-pub record Keeps (s : Settings) (asked : PlanAsked) (above file : List ℕ) (line : ℕ) (is : Line) (cron : Cron) (old new : Jobs) : Type 0 where
+-- one more job, with what is shown of it at a place, in the file with a number
+pub record Keeps (s : Settings) (asked : PlanAsked) (above : List ℕ) (number : ℕ) (file : List ℕ) (line : ℕ) (is : Line) (cron : Cron) (old new : Jobs) : Type 0 where
   pub words : List ℕ
   pub described : IsDescription s.language (job_of cron) words
   pub jobs : new.jobs ≡ old.jobs ++ schedule_of is cron ∷ []
-  pub shown : new.shown ≡ old.shown ++ job_shown asked file line above words is ∷ []
+  pub shown : new.shown ≡ old.shown ++ job_shown asked number file line above words is ∷ []
 
 -- the same of the line that was read last, and nothing was written
 pub record Adds (s : Settings) (asked : PlanAsked) (above : List ℕ) (is : Line) (cron : Cron) (old new : Seen) : Type 0 where
-  pub kept : Keeps s asked above old.stand.file.name old.stand.lines is cron (record { jobs = old.jobs; shown = old.shown }) (record { jobs = new.jobs; shown = new.shown })
+  pub kept : Keeps s asked above old.stand.files old.stand.file.name old.stand.lines is cron (record { jobs = old.jobs; shown = old.shown }) (record { jobs = new.jobs; shown = new.shown })
   pub stand : new.stand ≡ record old.stand { tally = with_job old.stand.tally }
   pub written : new.written ≡ old.written
 
--- a line without a place in the plan is told as in a report of a line that has its line feed; warnings are not counted
-pub record Passes (s : Settings) (text : List ℕ) (entry : Entry) (old new : Seen) : Type 0 where
+-- a line without a place in the plan is told as in a report, and where a file is asked for, with no more of the line than the bytes at fault
+abbrev pub WritesPassed : Option FileAsked → Settings → List ℕ → ℕ → List ℕ → Report → Written → Written → Type 0
+WritesPassed None s file line text report old new = WritesReport s.look file line text report old new
+WritesPassed (Some asked) s file line text report old new = WritesIgnored file line text report old new
+
+-- so is a line that has its line feed; warnings are not counted
+pub record Passes (s : Settings) (asked : PlanAsked) (text : List ℕ) (entry : Entry) (old new : Seen) : Type 0 where
   pub report : Report
   pub reported : IsReportOfLine true s text entry report
   pub jobs : new.jobs ≡ old.jobs
   pub shown : new.shown ≡ old.shown
   pub stand : new.stand ≡ record old.stand { tally = counted old.stand.tally report; file = with_report report old.stand.file }
-  pub written : WritesReport s.look old.stand.file.name old.stand.lines text report old.written new.written
+  pub written : WritesPassed asked.file s old.stand.file.name old.stand.lines text report old.written new.written
 
 -- the user of a line is none of those that are known
 abbrev pub is_refused_by_user : Settings → Line → Bool
@@ -201,7 +212,7 @@ job_planned s is found = if is_refused_by_user s is then None else job_found fou
 -- what the entry of a line with that job leaves
 abbrev pub PlansJob : Settings → PlanAsked → List ℕ → List ℕ → Entry → Option Cron → Seen → Seen → Type 0
 PlansJob s asked above text entry (Some cron) old new = Adds s asked above (entry_seen entry) cron old new
-PlansJob s asked above text entry None old new = Passes s text entry old new
+PlansJob s asked above text entry None old new = Passes s asked text entry old new
 
 abbrev pub PlansOutcome : Settings → PlanAsked → List ℕ → List ℕ → Entry → Outcome → Seen → Seen → Type 0
 PlansOutcome s asked above text entry found old new = PlansJob s asked above text entry (job_planned s (entry_seen entry) found) old new
@@ -210,7 +221,22 @@ PlansOutcome s asked above text entry found old new = PlansJob s asked above tex
 abbrev pub above_at : ℕ → List ℕ → List ℕ
 above_at lines above = if lines == 0 then [] else above
 
--- the job of a line that has one is added, with what is shown of it, and any other line is told; and the line may give a title to the next
+-- ---- the files that cron ignores
+
+-- a file is one of those with these numbers
+abbrev pub is_numbered : List ℕ → ℕ → Bool
+is_numbered numbers number = list_any (λ (n : ℕ). n == number) numbers
+
+-- these numbers, with one more, which stands there once
+abbrev pub with_number : ℕ → List ℕ → List ℕ
+with_number number numbers = if is_numbered numbers number then numbers else numbers ++ number ∷ []
+
+-- those of the files that cron ignores as a whole, after one more line: that of its file, too, where cron ignores that for what was read of it so far
+abbrev pub ignored_after : Dialect → Stand → List ℕ → List ℕ
+ignored_after dialect stand numbers = if is_ignored dialect stand.lines stand.file then with_number stand.files numbers else numbers
+
+-- the job of a line that has one is added, with what is shown of it, and any other line is told; the line may give a title to the next; and cron
+-- may ignore its file
 pub record Plans (s : Settings) (old : State Planner) (y : LineRead) (new : State Planner) : Type 0 where
   pub entry : Entry
   pub found : Outcome
@@ -219,6 +245,7 @@ pub record Plans (s : Settings) (old : State Planner) (y : LineRead) (new : Stat
   pub planned : PlansOutcome s old.form.asked (above_at old.stand.lines old.form.above.items) y.bytes entry found
       (seen old.form.schedules old.form.jobs (at_line y.is y.is_fed old.stand) old.written) (seen new.form.schedules new.form.jobs new.stand new.written)
   pub above : new.form.above.items ≡ unwrap_or (heading y.is y.bytes) (above_at old.stand.lines old.form.above.items)
+  pub ignored : new.form.ignored.items ≡ ignored_after s.dialect new.stand old.form.ignored.items
   pub asked : new.form.asked ≡ old.form.asked
   pub names : new.form.names ≡ old.form.names
 
@@ -257,11 +284,19 @@ WritesPlan s shared p old new = WritesUnlessFile p.asked.file s shared p old new
 
 -- ---- the end of a file
 
--- what is said of a file as a whole, if anything is, and that its jobs are planned all the same
-abbrev pub planned_ending : List ℕ → List ℕ
-planned_ending [] = []
-planned_ending (b ∷ bs) = (b ∷ bs) ++ codes "  its jobs are in this plan, as cron would start them once that is mended\n"
+-- one of these jobs is of the file with a number
+abbrev pub has_jobs : ℕ → List Planned → Bool
+has_jobs number jobs = list_any (λ (p : Planned). p.number == number) jobs
+
+-- that its jobs are planned, where it has some
+abbrev pub planned_text : Bool → List ℕ
+planned_text has_some = if has_some then codes "  its jobs are in this plan, as cron would start them once that is mended\n" else []
+
+-- what is said of a file as a whole, if anything is, and that its jobs are planned all the same, where it has some
+abbrev pub planned_ending : Bool → List ℕ → List ℕ
+planned_ending has_some [] = []
+planned_ending has_some (b ∷ bs) = (b ∷ bs) ++ planned_text has_some
 
 -- it was written, set apart
-abbrev pub WritesPlanEnding : Settings → Stand → Written → Written → Type 0
-WritesPlanEnding s stand old new = WritesApart (planned_ending (ending_of s.dialect stand.lines stand.file)) old new
+abbrev pub WritesPlanEnding : Settings → List Planned → Stand → Written → Written → Type 0
+WritesPlanEnding s jobs stand old new = WritesApart (planned_ending (has_jobs stand.files jobs) (ending_of s.dialect stand.lines stand.file)) old new

@@ -5,12 +5,13 @@ ghost use Rattle.croner.specs.Views.{job_of as meaning_of_job};
 ghost use Rattle.crontab.specs.Content.{IsOutcome};
 ghost use Rattle.crontab.specs.Entries.{entry_seen};
 ghost use Rattle.croncheck_output.specs.Output.{Written, written_of};
-ghost use Rattle.croncheck_planner.specs.Planner.{seen, planned_seen, job_shown, schedule_of, label_text, command_after, user_text, command_of, times_of, above_at, is_refused_by_user, with_job, jobs_seen, Adds, IsFoundBy, Keeps, Passes, PlansOutcome, WritesListed, WritesAnswered, WritesPlan, planned_ending, WritesPlanEnding};
+ghost use Rattle.croncheck_planner.specs.Planner.{seen, planned_seen, job_shown, schedule_of, label_text, command_after, user_text, command_of, times_of, above_at, is_refused_by_user, with_job, jobs_seen, Adds, IsFoundBy, Keeps, Passes, PlansOutcome, WritesListed, WritesAnswered, WritesPassed, WritesPlan, has_jobs, ignored_after, is_numbered, with_number, planned_ending, planned_text, WritesPlanEnding};
 ghost use Rattle.croncheck_output.specs.Escaped.{spaced};
 ghost use Rattle.croncheck_reading.specs.Stand.{stand_of};
 ghost use Rattle.croncheck_report.specs.Told.{IsDescription};
 
 mod calendar;
+mod ignored;
 mod json;
 pub mod page;
 
@@ -26,7 +27,7 @@ use croncheck_reading::form::Form;
 use croncheck_reading::progress::{Line, Progress, Terms};
 use croncheck_reading::tally::{Tally, one_more};
 use croncheck_report::location::Location;
-use croncheck_report::report::report_of_line;
+use croncheck_report::report::{Report, report_of_line};
 use croncheck_report::settings::Settings;
 use croncheck_report::told::description_of;
 use croncheck_shown::reporter::write_report;
@@ -37,8 +38,9 @@ use croner::errors::CronError;
 use cronplan_forms::PlanAsked;
 use cronplan_jobs::Schedule;
 use crontab::content::{Outcome, outcome_of};
-use crontab::line::Entry;
+use crontab::line::{Dialect, Entry};
 use crontab_runs::CrontabJob;
+use ignored::write_ignored;
 use std::alloc::{AllocError, Global};
 use std::io;
 use std::io::{ErrorKind, Write};
@@ -55,6 +57,8 @@ pub struct ClockNames {
 /// What is shown of a job of a plan.
 #[derive(Drop)]
 pub struct Planned {
+    // The number of its file among those that are read, from 1.
+    pub(crate) number: u64,
     /// The number of its line in its file, from 1.
     pub line: u64,
     /// The name of its file, as it is shown.
@@ -81,6 +85,8 @@ pub struct Planner {
     jobs: Vec<Planned>,
     // The title that comments give to the next line; empty where they give none.
     above: Vec<u8>,
+    // The numbers of the files that cron ignores as a whole, each once.
+    ignored: Vec<u64>,
     asked: PlanAsked,
     names: ClockNames,
 }
@@ -89,6 +95,7 @@ impl Planner {
     /// A planner that has no job yet, and knows the names of the zones.
     pub fn new(alloc: Global, asked: PlanAsked, names: ClockNames) -> Planner
         ensures jobs { (result.schedules.items ≡ []) × (result.jobs.items ≡ []) }
+        ensures ignored { result.ignored.items ≡ [] }
         ensures asked { result.asked ≡ asked }
         ensures names { result.names ≡ names }
     {
@@ -96,6 +103,7 @@ impl Planner {
             schedules: Vec::new(alloc),
             jobs: Vec::new(alloc),
             above: Vec::new(alloc),
+            ignored: Vec::new(alloc),
             asked,
             names,
         }
@@ -106,6 +114,7 @@ impl Planner {
         ensures above { self.new.above.items ≡ above_at lines self.old.above.items }
         ensures schedules { self.new.schedules ≡ self.old.schedules }
         ensures jobs { self.new.jobs ≡ self.old.jobs }
+        ensures ignored { self.new.ignored ≡ self.old.ignored }
         ensures asked { self.new.asked ≡ self.old.asked }
         ensures names { self.new.names ≡ self.old.names }
     {
@@ -119,6 +128,7 @@ impl Planner {
         ensures above { self.new.above.items ≡ unwrap_or (option_map (λ text. text.items) heading) self.old.above.items }
         ensures schedules { self.new.schedules ≡ self.old.schedules }
         ensures jobs { self.new.jobs ≡ self.old.jobs }
+        ensures ignored { self.new.ignored ≡ self.old.ignored }
         ensures asked { self.new.asked ≡ self.old.asked }
         ensures names { self.new.names ≡ self.old.names }
     {
@@ -127,22 +137,39 @@ impl Planner {
         }
     }
 
-    // Takes the job of the line at a place.
+    // Takes the number of the file that is read, where cron ignores it as a whole for what was read of it so far.
+    fn judge_file(&mut self, dialect: Dialect, progress: &Progress) -> Result<(), AllocError>
+        ensures ignored { OnOk result (self.new.ignored.items ≡ ignored_after dialect (stand_of progress.now) self.old.ignored.items) }
+        ensures above { self.new.above ≡ self.old.above }
+        ensures schedules { self.new.schedules ≡ self.old.schedules }
+        ensures jobs { self.new.jobs ≡ self.old.jobs }
+        ensures asked { self.new.asked ≡ self.old.asked }
+        ensures names { self.new.names ≡ self.old.names }
+    {
+        if progress.file.is_ignored(dialect, progress.lines) {
+            add_number(&mut self.ignored, progress.files)?;
+        }
+        Ok(())
+    }
+
+    // Takes the job of the line at a place, in the file with this number.
     fn keep(
         &mut self,
         terms: &Terms<'_, '_>,
+        number: u64,
         place: Location<'_>,
         job: Cron,
         entry: &Entry<'_>,
     ) -> io::Result<()>
-        ensures keeps { OnOk result (Keeps terms.now.settings.now self.old.asked self.old.above.items place.entry.file.now place.entry.line (entry_seen entry.now) job
+        ensures keeps { OnOk result (Keeps terms.now.settings.now self.old.asked self.old.above.items number place.entry.file.now place.entry.line (entry_seen entry.now) job
             (jobs_seen self.old.schedules self.old.jobs) (jobs_seen self.new.schedules self.new.jobs)) }
         ensures above { self.new.above ≡ self.old.above }
+        ensures ignored { self.new.ignored ≡ self.old.ignored }
         ensures asked { self.new.asked ≡ self.old.asked }
         ensures names { self.new.names ≡ self.old.names }
     {
         let above = self.above.as_slice();
-        let planned = planned_of(terms, self.asked, place, above, entry, &job)?;
+        let planned = planned_of(terms, self.asked, number, place, above, entry, &job)?;
         self.schedules.reserve(1)?;
         self.jobs.reserve(1)?;
         self.schedules.push_reserved(schedule_of(entry, job));
@@ -161,10 +188,11 @@ impl Planner {
         ensures adds { (written : Written) → OnOk result (Adds terms.now.settings.now self.old.asked self.old.above.items (entry_seen entry.now) job
             (seen self.old.schedules self.old.jobs (stand_of progress.old) written) (seen self.new.schedules self.new.jobs (stand_of progress.new) written)) }
         ensures above { self.new.above ≡ self.old.above }
+        ensures ignored { self.new.ignored ≡ self.old.ignored }
         ensures asked { self.new.asked ≡ self.old.asked }
         ensures names { self.new.names ≡ self.old.names }
     {
-        self.keep(terms, progress.place(), job, entry)?;
+        self.keep(terms, progress.files, progress.place(), job, entry)?;
         progress.tally = with_job(progress.tally);
         Ok(())
     }
@@ -179,7 +207,7 @@ impl Planner {
         outcome: Outcome,
         output: &mut Output<W>,
     ) -> io::Result<()>
-        ensures { IsOutcome terms.now.settings.now.parser (entry_seen entry.entry) outcome → OnOk result (Passes terms.now.settings.now line.now entry.entry
+        ensures { IsOutcome terms.now.settings.now.parser (entry_seen entry.entry) outcome → OnOk result (Passes terms.now.settings.now self.now.asked line.now entry.entry
             (seen self.now.schedules self.now.jobs (stand_of progress.old) (written_of W.contents output.old))
             (seen self.now.schedules self.now.jobs (stand_of progress.new) (written_of W.contents output.new))) }
     {
@@ -196,7 +224,25 @@ impl Planner {
         };
         progress.tally.count(&report);
         progress.file.add_report(&report);
-        write_report(terms, progress.place(), line, &report, output)
+        self.tell(terms, progress.place(), line, &report, output)
+    }
+
+    // Tells of a line that has no place in the plan: as a report does, but if a file is asked for with no more of the line than the bytes
+    // at fault.
+    fn tell<W: Write>(
+        &self,
+        terms: &Terms<'_, '_>,
+        place: Location<'_>,
+        line: &[u8],
+        report: &Report<'_, '_>,
+        output: &mut Output<W>,
+    ) -> io::Result<()>
+        ensures { OnOk result (WritesPassed self.now.asked.file terms.now.settings.now place.entry.file.now place.entry.line line.now report.now (written_of W.contents output.old) (written_of W.contents output.new)) }
+    {
+        match self.asked.file {
+            Some(_) => write_ignored(terms.alloc, place, line, report, output),
+            None => write_report(terms, place, line, report, output),
+        }
     }
 
     // Plans the line that was read last, or tells of it. `outcome` is what the parser makes of its times.
@@ -213,6 +259,7 @@ impl Planner {
             (seen self.old.schedules self.old.jobs (stand_of progress.old) (written_of W.contents output.old))
             (seen self.new.schedules self.new.jobs (stand_of progress.new) (written_of W.contents output.new))) }
         ensures above { self.new.above ≡ self.old.above }
+        ensures ignored { self.new.ignored ≡ self.old.ignored }
         ensures asked { self.new.asked ≡ self.old.asked }
         ensures names { self.new.names ≡ self.old.names }
     {
@@ -300,7 +347,7 @@ impl Form for Planner {
 
     ghost takes = { λ terms old y new. Plans terms.settings.now old y new };
 
-    ghost ends_file = { λ terms planner stand old new. WritesPlanEnding terms.settings.now stand old new };
+    ghost ends_file = { λ terms planner stand old new. WritesPlanEnding terms.settings.now planner.jobs.items stand old new };
 
     ghost ends = { λ terms planner old new. WritesPlan terms.settings.now terms.shared.now planner old new };
 
@@ -322,6 +369,7 @@ impl Form for Planner {
         let outcome = outcome_of(terms.alloc, terms.settings.parser, &entry)?;
         self.plan_line(terms, progress, text, entry, outcome, output)?;
         self.take_heading(heading);
+        self.judge_file(terms.settings.dialect, progress)?;
         Ok(())
     }
 
@@ -331,7 +379,7 @@ impl Form for Planner {
         progress: &Progress,
         output: &mut Output<W>,
     ) -> io::Result<()> {
-        write_plan_ending(terms, progress, output)
+        write_plan_ending(terms, self.jobs.as_slice(), progress, output)
     }
 
     fn end<W: Write>(&self, terms: &Terms<'_, '_>, output: &mut Output<W>) -> io::Result<()> {
@@ -339,32 +387,65 @@ impl Form for Planner {
     }
 }
 
-/// Writes what cron makes of a file as a whole, if it makes anything of it, and that its jobs are planned all the same. The error is that of
-/// what is written to, or says that memory is lacking.
+/// Writes what cron makes of a file as a whole, if it makes anything of it, and that its jobs are planned all the same, where these jobs
+/// have some of it. The error is that of what is written to, or says that memory is lacking.
 pub(crate) fn write_plan_ending<W: Write>(
     terms: &Terms<'_, '_>,
+    jobs: &[Planned],
     progress: &Progress,
     output: &mut Output<W>,
 ) -> io::Result<()>
-    ensures { OnOk result (WritesPlanEnding terms.now.settings.now (stand_of progress.now) (written_of W.contents output.old)
+    ensures { OnOk result (WritesPlanEnding terms.now.settings.now jobs.now (stand_of progress.now) (written_of W.contents output.old)
         (written_of W.contents output.new)) }
 {
     let ending = progress
         .file
         .ending(terms.alloc, terms.settings.dialect, progress.lines)?;
-    let text = planned_ending(ending)?;
+    let text = planned_ending(has_jobs(progress.files, jobs), ending)?;
     output.write_apart(text.as_str())
 }
 
-fn planned_ending(mut ending: String) -> Result<String, AllocError>
-    ensures { IfOk result (λ text. string_bytes text ≡ planned_ending (string_bytes ending)) }
+// Whether one of these jobs is of the file with this number.
+fn has_jobs(number: u64, jobs: &[Planned]) -> bool
+    ensures { result ≡ has_jobs number jobs.now }
+{
+    jobs.iter().any(|job| job.number == number)
+}
+
+fn planned_ending(has_some: bool, mut ending: String) -> Result<String, AllocError>
+    ensures { IfOk result (λ text. string_bytes text ≡ planned_ending has_some (string_bytes ending)) }
 {
     if !ending.is_empty() {
-        ending.push_str(
-            "  its jobs are in this plan, as cron would start them once that is mended\n",
-        )?;
+        push_planned(&mut ending, has_some)?;
     }
     Ok(ending)
+}
+
+// Appends to a text that jobs of a file are planned, where it has some.
+fn push_planned(text: &mut String, has_some: bool) -> Result<(), AllocError>
+    ensures { OnOk result (string_bytes text.new ≡ string_bytes text.old ++ planned_text has_some) }
+{
+    if !has_some {
+        return Ok(());
+    }
+    text.push_str("  its jobs are in this plan, as cron would start them once that is mended\n")
+}
+
+// Puts a number among numbers, unless it is there.
+fn add_number(numbers: &mut Vec<u64>, number: u64) -> Result<(), AllocError>
+    ensures { OnOk result (numbers.new.items ≡ with_number number numbers.old.items) }
+{
+    if !is_numbered(numbers.as_slice(), number) {
+        numbers.push(number)?;
+    }
+    Ok(())
+}
+
+/// Whether the file with a number is one of those with these numbers.
+pub(crate) fn is_numbered(numbers: &[u64], number: u64) -> bool
+    ensures { result ≡ is_numbered numbers.now number }
+{
+    numbers.iter().any(|one| *one == number)
 }
 
 // Whether the user of an entry is none of those that are known.
@@ -413,22 +494,24 @@ fn schedule_of(entry: &Entry<'_>, cron: Cron) -> Schedule
 
 // ---- what is shown of a job
 
-// What is shown of the job of an entry at a place, of whose times the parser makes this, above which this title stands, if there is any.
+// What is shown of the job of an entry at a place, in the file with this number, of whose times the parser makes this, above which this
+// title stands, if there is any.
 fn planned_of(
     terms: &Terms<'_, '_>,
     asked: PlanAsked,
+    number: u64,
     place: Location<'_>,
     above: &[u8],
     entry: &Entry<'_>,
     job: &Cron,
 ) -> io::Result<Planned>
     ensures { IfOk result (λ planned. (words : List ℕ) × IsDescription terms.now.settings.now.language (meaning_of_job job.now) words
-        × (planned_seen planned ≡ job_shown asked place.entry.file.now place.entry.line above.now words (entry_seen entry.now))) }
+        × (planned_seen planned ≡ job_shown asked number place.entry.file.now place.entry.line above.now words (entry_seen entry.now))) }
 {
     let Ok(words) = description_of(terms.alloc, job, terms.settings.language) else {
         return Err(io::Error::from(ErrorKind::OutOfMemory));
     };
-    let planned = planned_in(terms.alloc, asked, place, above, words, entry)?;
+    let planned = planned_in(terms.alloc, asked, number, place, above, words, entry)?;
     Ok(planned)
 }
 
@@ -436,12 +519,13 @@ fn planned_of(
 fn planned_in(
     alloc: Global,
     asked: PlanAsked,
+    number: u64,
     place: Location<'_>,
     above: &[u8],
     words: String,
     entry: &Entry<'_>,
 ) -> Result<Planned, AllocError>
-    ensures { IfOk result (λ planned. planned_seen planned ≡ job_shown asked place.entry.file.now place.entry.line above.now (string_bytes words) (entry_seen entry.now)) }
+    ensures { IfOk result (λ planned. planned_seen planned ≡ job_shown asked number place.entry.file.now place.entry.line above.now (string_bytes words) (entry_seen entry.now)) }
 {
     let title = title_of(above, entry);
     let label = label_of(alloc, asked, place, title, entry)?;
@@ -452,6 +536,7 @@ fn planned_in(
     let command = copy_of(alloc, command_of(entry))?;
     let line = place.line;
     Ok(Planned {
+        number,
         line,
         file,
         title,

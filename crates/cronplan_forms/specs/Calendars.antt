@@ -1,6 +1,6 @@
 -- The starts of jobs as a calendar. Sources: RFC 5545, sections 3.4, 3.6.1, 3.7 and 3.8; RFC 7986, section 5.1 (NAME); RFC 9562, section
 -- 5.5 (UUIDs of version 5); and this crate's documentation.
-use Rattle.std.specs.Prelude.{ℕ, ℤ, nat_le, ◌==◌, List, [], ◌∷◌, ◌++◌, take, codes, Option, Some, None, if◌then◌else◌}
+use Rattle.std.specs.Prelude.{ℕ, ℤ, nat_le, ◌==◌, Bool, List, [], ◌∷◌, ◌++◌, take, codes, Option, Some, None, if◌then◌else◌}
 use Rattle.std.specs.Fmt.{decimal, signed_decimal}
 use Rattle.std.specs.List.{flat_map}
 use Rattle.sha1.specs.Sha1.{sha1}
@@ -64,9 +64,13 @@ times_text count = if count == 1 then [] else codes " (" ++ (decimal count ++ co
 unfoldable pub summary_text : Event → List ℕ
 summary_text e = e.job.title.now ++ times_text e.start.count
 
--- the words for a job's times, and after a line feed its file and line
+-- what is said of a job whose whole file cron ignores
+abbrev pub ignored_text : Bool → List ℕ
+ignored_text is_ignored = if is_ignored then codes "\nCron ignores this file, and doesn't start the job until the file is mended." else []
+
+-- the words for a job's times, in the next line its file and line, and in a third one what is said where cron ignores that file
 unfoldable pub words_text : Job → List ℕ
-words_text job = job.words.now ++ (codes "\n" ++ (job.file.now ++ (codes ":" ++ decimal job.line)))
+words_text job = (job.words.now ++ (codes "\n" ++ (job.file.now ++ (codes ":" ++ decimal job.line)))) ++ ignored_text job.is_ignored
 
 -- how long an event lasts, where that is told
 abbrev pub duration_line : Option ℕ → List ℕ
@@ -104,9 +108,14 @@ most_events = 2_000
 abbrev pub cut_text : ℕ → List ℕ
 cut_text count = if nat_le count most_events then [] else codes " These are the first 2000 of " ++ (decimal count ++ codes " starts.")
 
--- what is told of a calendar: what is left out
+-- what is said where cron ignores the whole file of some job
+abbrev pub file_text : Bool → List ℕ
+file_text has_ignored =
+    if has_ignored then codes "cron ignores the files of some of these jobs, and starts none of those: their events say so\n" else []
+
+-- what is told of a calendar: what is left out, and that cron ignores the files of some jobs, where it does
 unfoldable pub description_text : Calendar → List ℕ
-description_text c = c.left_out.now ++ cut_text c.starts
+description_text c = (c.left_out.now ++ file_text c.has_ignored) ++ cut_text c.starts
 
 -- the begin of a calendar: the version of the format, and who wrote it
 unfoldable pub calendar_begin : List ℕ

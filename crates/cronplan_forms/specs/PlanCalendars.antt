@@ -1,6 +1,6 @@
 -- The calendar of a plan. Source: this crate's documentation of `plan_calendar`.
 use Rattle.std.specs.Prelude.{◌≡◌, ◌&&◌, ◌^◌, ◌-◌, ℕ, min, pos, Bool, true, List, [], length, map, take, slice_get, bytes_eq, IfSome}
-use Rattle.std.specs.List.{All, count_by}
+use Rattle.std.specs.List.{All, count_by, list_any}
 use Rattle.croner_base.specs.declared.time.table.ClockTable.{ClockTable}
 use Rattle.croner_base.specs.Civil.{wall_second}
 use Rattle.croner_base.specs.Table.{is_table_second}
@@ -11,6 +11,10 @@ use Rattle.cronplan_forms.specs.declared.job.Job.{Job}
 use Rattle.cronplan_forms.specs.declared.view.View.{View}
 use Rattle.cronplan_forms.specs.Answers.{left_out_text}
 use Rattle.cronplan_forms.specs.Calendars.{most_events}
+
+-- cron ignores the whole file of a job
+abbrev pub is_ignored : Job → Bool
+is_ignored job = job.is_ignored
 
 -- the clock of a table shows UTC
 pub record IsUtcTable (table : ClockTable) : Type 0 where
@@ -34,6 +38,7 @@ pub record IsEventOf (jobs : List Job) (e : Event) : Type 0 where
 pub record IsPlanCalendar (v : View) (n : Naming) (c : Calendar) (events : List Event) : Type 0 where
   pub name : c.name.now ≡ n.name.now
   pub left_out : c.left_out.now ≡ left_out_text v
+  pub has_ignored : c.has_ignored ≡ list_any is_ignored v.jobs.now
   pub stamp : c.stamp ≡ n.stamp
   pub lasts : c.lasts ≡ n.lasts
   pub starts : c.starts ≡ length v.plan.now.starts.items

@@ -1,6 +1,6 @@
 //! The starts of jobs as a calendar (RFC 5545).
 ghost use Rattle.std.specs.Prelude.{◌≡◌, ◌++◌, codes, take, IfOk, OnOk, string_bytes};
-ghost use Rattle.cronplan_forms.specs.Calendars.{property_line, text_line, most_events, cut_text, description_text, calendar_begin, calendar_names, calendar_head, events_text, calendar_text};
+ghost use Rattle.cronplan_forms.specs.Calendars.{property_line, text_line, most_events, cut_text, file_text, description_text, calendar_begin, calendar_names, calendar_head, events_text, calendar_text};
 
 mod event;
 mod moment;
@@ -24,6 +24,8 @@ pub struct Calendar<'c> {
     pub name: &'c str,
     /// What it leaves out, in words.
     pub left_out: &'c str,
+    /// Whether cron ignores the whole file of one of its jobs.
+    pub has_ignored: bool,
     /// When it is made, in UTC, in the years 0 to 9999.
     pub stamp: CivilDateTime,
     /// How long each event lasts, in seconds, if that is said.
@@ -122,14 +124,27 @@ fn push_names(alloc: Global, text: &mut String, name: &str) -> Result<(), AllocE
     push_text(alloc, text, "X-WR-CALNAME", name)
 }
 
-// What a calendar leaves out.
+// What a calendar leaves out, and that cron ignores the files of some of its jobs, if it does.
 #[tactic(auto, unfolding(crate::specs::Calendars::description_text))]
 fn description_text(alloc: Global, calendar: Calendar<'_>) -> Result<String, AllocError>
     ensures { IfOk result (λ t. string_bytes t ≡ description_text calendar.entry) }
 {
     let mut text = String::from_str(alloc, calendar.left_out)?;
+    push_ignored(&mut text, calendar.has_ignored)?;
     push_cut(&mut text, calendar.starts)?;
     Ok(text)
+}
+
+// What is said if cron ignores the whole file of some job.
+fn push_ignored(text: &mut String, has_ignored: bool) -> Result<(), AllocError>
+    ensures { OnOk result (string_bytes text.new ≡ string_bytes text.old ++ file_text has_ignored) }
+{
+    if !has_ignored {
+        return Ok(());
+    }
+    text.push_str(
+        "cron ignores the files of some of these jobs, and starts none of those: their events say so\n",
+    )
 }
 
 // What is said if a calendar doesn't have all of so many starts.

@@ -13,6 +13,8 @@ pub struct Job<'j> {
     /// Its times as the crontab has them.
     pub times: &'j str,
     pub command: &'j [u8],
+    /// Whether cron ignores its whole file, so that it doesn't start the job. The calendar and the object say so.
+    pub is_ignored: bool,
     /// How many jobs with the same user, times and command come before it.
     pub equal: u32,
 }

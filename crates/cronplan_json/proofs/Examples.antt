@@ -1,5 +1,6 @@
 -- Worked objects of a plan, written by hand from this crate's documentation, and computed from the definitions.
 use Rattle.std.proofs.Common.{◌≡◌, ℕ, pos, List, [], ◌∷◌, ◌++◌, true, false, None, Some, map, refl}
+use Rattle.std.specs.Borrow.{Bor}
 use Rattle.std.specs.Fmt.{digits}
 use Rattle.std.specs.Prelude.{codes}
 use Rattle.serde_json.proofs.OnLiterals.{serde_json_on_literals}
@@ -81,19 +82,19 @@ a_moment t ahead text = rw (text, ahead) refl
 
 -- ---- jobs
 
--- a job of a user's crontab, and one of the system's
+-- a job of a user's crontab that cron ignores, and one of the system's
 a_job : (job : Job) → job.file.now ≡ codes "f" → job.line ≡ 3 → job.times.now ≡ codes "@daily" → job.title.now ≡ codes "t" → job.user.now ≡ [] → job.words.now ≡ codes "w"
-    → compact_text (job_object job 7 false)
-    ≡ codes "{\"file\":\"f\",\"frequent\":false,\"line\":3,\"starts\":7,\"times\":\"@daily\",\"title\":\"t\",\"words\":\"w\"}"
+    → job.is_ignored ≡ true → compact_text (job_object job 7 false)
+    ≡ codes "{\"file\":\"f\",\"frequent\":false,\"ignored\":true,\"line\":3,\"starts\":7,\"times\":\"@daily\",\"title\":\"t\",\"words\":\"w\"}"
 unfolding serde_json_on_literals digits
-a_job job file line times title user words = rw (file, line, times, title, user, words) refl
+a_job job file line times title user words ignored = rw (file, line, times, title, user, words, ignored) refl
 
 a_job_with_user : (job : Job) → job.file.now ≡ codes "f" → job.line ≡ 3 → job.times.now ≡ codes "@daily" → job.title.now ≡ codes "t" → job.user.now ≡ codes "root"
-    → job.words.now ≡ codes "w"
+    → job.words.now ≡ codes "w" → job.is_ignored ≡ false
     → compact_text (job_object job 2_016 true)
-    ≡ codes "{\"file\":\"f\",\"frequent\":true,\"line\":3,\"starts\":2016,\"times\":\"@daily\",\"title\":\"t\",\"user\":\"root\",\"words\":\"w\"}"
+    ≡ codes "{\"file\":\"f\",\"frequent\":true,\"ignored\":false,\"line\":3,\"starts\":2016,\"times\":\"@daily\",\"title\":\"t\",\"user\":\"root\",\"words\":\"w\"}"
 unfolding serde_json_on_literals digits
-a_job_with_user job file line times title user words = rw (file, line, times, title, user, words) refl
+a_job_with_user job file line times title user words ignored = rw (file, line, times, title, user, words, ignored) refl
 
 -- ---- windows
 
@@ -137,10 +138,10 @@ a_date d date hours starts = rw (date, hours, starts) refl
 
 -- ---- a plan
 
--- a plan without a job, where two hours of the day are told
-a_plan : (v : View) (first end : ClockTime) → v.is_cut ≡ false → v.zone.now ≡ codes "UTC" → v.other ≡ None → v.jobs.now ≡ [] → first.second ≡ pos 0 → first.ahead.seconds ≡ pos 7_200
+-- a plan without a job, where two hours of the day are told, and a line is to be read first
+a_plan : (v : View) (line : Bor (List ℕ)) (first end : ClockTime) → v.is_cut ≡ false → v.zone.now ≡ codes "UTC" → v.other ≡ None → v.jobs.now ≡ [] → line.now ≡ codes "f:1  l" → first.second ≡ pos 0 → first.ahead.seconds ≡ pos 7_200
     → time_text first ≡ codes "a" → end.second ≡ pos 7_200 → end.ahead.seconds ≡ pos 7_200 → time_text end ≡ codes "b"
-    → plan_object v (record { first = own first; end = own end; moments = []; quiet = []; days = []; hours = 0 ∷ 3 ∷ [] })
+    → plan_object v (line ∷ []) (record { first = own first; end = own end; moments = []; quiet = []; days = []; hours = 0 ∷ 3 ∷ [] })
     ≡ object
     (member (codes "cut") (boolean false)
     (member (codes "days") (array no_items)
@@ -150,11 +151,12 @@ a_plan : (v : View) (first end : ClockTime) → v.is_cut ≡ false → v.zone.no
     (member (codes "kind") (string (codes "plan"))
     (member (codes "moments") (array no_items)
     (member (codes "quiet") (array no_items)
+    (member (codes "read_first") (array (item (string (codes "f:1  l")) no_items))
     (member (codes "to") (at 7_200 (codes "b"))
     (member (codes "version") (number (unsigned 1))
-    (member (codes "zone") (string (codes "UTC")) no_members)))))))))))
-a_plan v first end cut zone other jobs first_second first_ahead first_text end_second end_ahead end_text =
-    rw (first_text, end_text, cut, zone, other, jobs, first_second, first_ahead, end_second, end_ahead) refl
+    (member (codes "zone") (string (codes "UTC")) no_members))))))))))))
+a_plan v line first end cut zone other jobs line_is first_second first_ahead first_text end_second end_ahead end_text =
+    rw (first_text, end_text, cut, zone, other, jobs, line_is, first_second, first_ahead, end_second, end_ahead) refl
 
 -- what a second zone is called, and that none is shown
 a_second_zone : (other : OtherClock) → other.zone.now ≡ codes "Asia/Tokyo" → other_zone (Some other) ≡ Some (string (codes "Asia/Tokyo"))

@@ -1,5 +1,6 @@
 -- The object of a plan has no float, so that its text is known.
 use Rattle.std.proofs.Common.{◌≡◌, ◌∙◌, ℕ, suc, ℤ, pos, negsuc, List, [], ◌∷◌, ◌||◌, Bool, true, false, if◌then◌else◌, Option, Some, None, map, ap, refl}
+use Rattle.std.specs.Borrow.{Bor}
 use Rattle.std.specs.Prelude.{codes, is_some}
 use Rattle.croner_base.specs.declared.time.civil.CivilDateTime.{CivilDateTime}
 use Rattle.cronplan.specs.declared.days.HourCell.{HourCell}
@@ -16,7 +17,7 @@ use Rattle.cronplan_forms.specs.declared.timed.TimedWindow.{TimedWindow}
 use Rattle.cronplan_forms.specs.declared.view.View.{View}
 use Rattle.cronplan_forms.specs.declared.week.WeekDay.{WeekDay}
 use Rattle.cronplan.specs.Moments.{at_second}
-use Rattle.serde_json.specs.Data.{Data, Members, null, array, object, put}
+use Rattle.serde_json.specs.Data.{Data, Members, null, string, array, object, put}
 use Rattle.serde_json.specs.Find.{is_float, of_integer}
 use Rattle.serde_json.specs.View.{items_of}
 use Rattle.serde_json.specs.Written.{has_float, items_have_float, members_have_float, compact_text}
@@ -31,6 +32,10 @@ integer_whole (negsuc n) = refl
 counts_whole : (ns : List ℕ) → items_have_float (items_of (map count ns)) ≡ false
 counts_whole [] = refl
 counts_whole (n ∷ ns) = counts_whole ns
+
+texts_whole : (ts : List (Bor (List ℕ))) → items_have_float (items_of (map (λ (t : Bor (List ℕ)). string t.now) ts)) ≡ false
+texts_whole [] = refl
+texts_whole (t ∷ ts) = texts_whole ts
 
 clock_whole : (t : ClockTime) → members_have_float (clock_members t) ≡ false
 clock_whole t = rw (integer_whole t.ahead.seconds, integer_whole t.second) refl
@@ -100,8 +105,8 @@ days_whole : (shown : List WeekDay) → items_have_float (items_of (map day_obje
 days_whole [] = refl
 days_whole (d ∷ ds) = rw (day_whole d) (days_whole ds)
 
-plan_whole : (v : View) (told : Told) → has_float (plan_object v told) ≡ false
-plan_whole v told = at v.other where
+plan_whole : (v : View) (lines : List (Bor (List ℕ))) (told : Told) → has_float (plan_object v lines told) ≡ false
+plan_whole v lines told = at v.other where
   days : Data
   days = array (items_of (map day_object told.days))
 
@@ -112,7 +117,7 @@ plan_whole v told = at v.other where
   quiet = array (items_of (map window_object told.quiet))
 
   at : (o : Option OtherClock)
-      → members_have_float (with_optional (codes "shown_zone") (other_zone o) (plan_members v told.first told.end days (counts told.hours) moments quiet)) ≡ false
+      → members_have_float (with_optional (codes "shown_zone") (other_zone o) (plan_members v lines told.first told.end days (counts told.hours) moments quiet)) ≡ false
   at None =
       rw (
         days_whole told.days,
@@ -121,6 +126,7 @@ plan_whole v told = at v.other where
         jobs_whole v.frequent.now v.plan.now.starts.items 0 v.jobs.now,
         moments_whole v.plan.now.starts.items told.moments,
         windows_whole told.quiet,
+        texts_whole lines,
         instant_whole told.end,
       ) refl
   at (Some other) =
@@ -131,17 +137,18 @@ plan_whole v told = at v.other where
         jobs_whole v.frequent.now v.plan.now.starts.items 0 v.jobs.now,
         moments_whole v.plan.now.starts.items told.moments,
         windows_whole told.quiet,
+        texts_whole lines,
         instant_whole told.end,
       ) refl
 
 -- the members of a view, with such lists put at their places and with the second zone, are those of what is told
-pub with_lists : (v : View) (told : Told) (own dated hourly momentary quieted all : Members) (days hours moments quiet : Data) → own ≡ view_members v told.first told.end
+pub with_lists : (v : View) (lines : List (Bor (List ℕ))) (told : Told) (own dated hourly momentary quieted all : Members) (days hours moments quiet : Data) → own ≡ view_members v lines told.first told.end
     → dated ≡ put (codes "days") days own → hourly ≡ put (codes "hours") hours dated → momentary ≡ put (codes "moments") moments hourly
     → quieted ≡ put (codes "quiet") quiet momentary → all ≡ with_optional (codes "shown_zone") (other_zone v.other) quieted
     → days ≡ array (items_of (map day_object told.days)) → hours ≡ counts told.hours
     → moments ≡ array (items_of (map (moment_object v.plan.now.starts.items) told.moments)) → quiet ≡ array (items_of (map window_object told.quiet))
-    → object all ≡ plan_object v told
-with_lists v told own dated hourly momentary quieted all days hours moments quiet own_is dated_is hourly_is momentary_is quieted_is all_is days_are hours_are moments_are quiet_are =
+    → object all ≡ plan_object v lines told
+with_lists v lines told own dated hourly momentary quieted all days hours moments quiet own_is dated_is hourly_is momentary_is quieted_is all_is days_are hours_are moments_are quiet_are =
     ap (λ (m : Members). object m)
     (all_is ∙ ap (λ (m : Members). with_optional (codes "shown_zone") (other_zone v.other) m)
     (quieted_is ∙ ap (λ (m : Members). put (codes "quiet") quiet m)
@@ -150,9 +157,9 @@ with_lists v told own dated hourly momentary quieted all days hours moments quie
     ∙ rw (days_are, hours_are, moments_are, quiet_are) refl
 
 -- so its text is that of the object
-pub text_of_plan : (v : View) (d : Data) (text : List ℕ) → IsPlanData v d → (has_float d ≡ false → text ≡ compact_text d) → IsPlanJson v text
-text_of_plan v d text is text_is = record {
+pub text_of_plan : (v : View) (lines : List (Bor (List ℕ))) (d : Data) (text : List ℕ) → IsPlanData v lines d → (has_float d ≡ false → text ≡ compact_text d) → IsPlanJson v lines text
+text_of_plan v lines d text is text_is = record {
   told = is.told;
   is_told = is.is_told;
-  text_is = text_is (ap has_float is.data_is ∙ plan_whole v is.told) ∙ ap compact_text is.data_is;
+  text_is = text_is (ap has_float is.data_is ∙ plan_whole v lines is.told) ∙ ap compact_text is.data_is;
 }

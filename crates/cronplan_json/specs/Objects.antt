@@ -1,6 +1,7 @@
 -- What stands in the JSON of a plan of its seconds, jobs, moments, windows and dates. The members of an object stand in the order of their
 -- names. Source: this crate's documentation.
 use Rattle.std.specs.Prelude.{ℕ, suc, ℤ, ◌==◌, ◌||◌, Bool, List, [], ◌∷◌, ◌++◌, codes, map, sum_by, if◌then◌else◌, Option, Some, None, is_some, unwrap_or}
+use Rattle.std.specs.Borrow.{Bor}
 use Rattle.serde_json.specs.Data.{Data, Members, null, boolean, number, unsigned, string, array, object, member, no_members, put}
 use Rattle.serde_json.specs.Find.{of_integer}
 use Rattle.serde_json.specs.View.{items_of}
@@ -35,6 +36,12 @@ count n = number (unsigned n)
 
 abbrev pub counts : List ℕ → Data
 counts ns = array (items_of (map count ns))
+
+-- ---- texts
+
+-- a list of texts
+abbrev pub texts : List (Bor (List ℕ)) → Data
+texts ts = array (items_of (map (λ (t : Bor (List ℕ)). string t.now) ts))
 
 -- ---- seconds
 
@@ -82,16 +89,17 @@ starts_of place starts = sum_by (added_of place) starts
 abbrev pub job_starts : List Frequent → List JobStart → ℕ → ℕ
 job_starts frequent starts place = unwrap_or (frequent_count frequent place) (starts_of place starts)
 
--- a job with so many starts, which starts too often to be shown, or not
+-- a job with so many starts, which starts too often to be shown, or not; and whether cron ignores its whole file
 abbrev pub job_members : Job → ℕ → Bool → Members
 job_members job starts is_frequent =
     member (codes "file") (string job.file.now)
     (member (codes "frequent") (boolean is_frequent)
+    (member (codes "ignored") (boolean job.is_ignored)
     (member (codes "line") (count job.line)
     (member (codes "starts") (count starts)
     (member (codes "times") (string job.times.now)
     (member (codes "title") (string job.title.now)
-    (member (codes "words") (string job.words.now) no_members))))))
+    (member (codes "words") (string job.words.now) no_members)))))))
 
 -- the name of its user, where it has one
 abbrev pub user_data : List ℕ → Option Data

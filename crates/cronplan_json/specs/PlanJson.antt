@@ -2,6 +2,7 @@
 use Rattle.std.specs.Prelude.{◌≡◌, ℕ, List, codes, map, Option, Some, None}
 use Rattle.std.specs.List.{All}
 use Rattle.std.specs.List.Sorted.{IsSorted}
+use Rattle.std.specs.Borrow.{Bor}
 use Rattle.serde_json.specs.Data.{Data, Members, boolean, string, array, object, member, no_members, put}
 use Rattle.serde_json.specs.View.{items_of}
 use Rattle.serde_json.specs.Written.{compact_text}
@@ -24,7 +25,7 @@ use Rattle.cronplan_forms.specs.Answers.{AreHourCounts}
 use Rattle.cronplan_forms.specs.Besides.{IsShownTime}
 use Rattle.cronplan_forms.specs.Timed.{AreTimedMoments, AreTimedWindows}
 use Rattle.cronplan_forms.specs.Weeks.{IsNamedDay}
-use Rattle.cronplan_json.specs.Objects.{count, counts, instant_object, job_objects, moment_object, window_object, day_object, with_optional}
+use Rattle.cronplan_json.specs.Objects.{count, counts, instant_object, job_objects, moment_object, window_object, day_object, texts, with_optional}
 
 -- the least seconds of a window that is told
 abbrev pub least_quiet : ℕ
@@ -77,42 +78,43 @@ abbrev pub other_zone : Option OtherClock → Option Data
 other_zone None = None
 other_zone (Some other) = Some (string other.zone.now)
 
--- the members of the object of a view but for its lists, whose span begins and ends at these seconds
-abbrev pub view_members : View → ShownTime → ShownTime → Members
-view_members v first end =
+-- the members of the object of a view but for its lists, whose span begins and ends at these seconds, with lines that are to be read first
+abbrev pub view_members : View → List (Bor (List ℕ)) → ShownTime → ShownTime → Members
+view_members v lines first end =
     member (codes "cut") (boolean v.is_cut)
     (member (codes "from") (instant_object first)
     (member (codes "jobs") (array (items_of (job_objects v.frequent.now v.plan.now.starts.items 0 v.jobs.now)))
     (member (codes "kind") (string (codes "plan"))
+    (member (codes "read_first") (texts lines)
     (member (codes "to") (instant_object end)
     (member (codes "version") (count 1)
-    (member (codes "zone") (string v.zone.now) no_members))))))
+    (member (codes "zone") (string v.zone.now) no_members)))))))
 
 -- with these lists at their places: of its dates, its starts by the hour of the day, its moments and its windows
-abbrev pub plan_members : View → ShownTime → ShownTime → Data → Data → Data → Data → Members
-plan_members v first end days hours moments quiet =
-    put (codes "quiet") quiet (put (codes "moments") moments (put (codes "hours") hours (put (codes "days") days (view_members v first end))))
+abbrev pub plan_members : View → List (Bor (List ℕ)) → ShownTime → ShownTime → Data → Data → Data → Data → Members
+plan_members v lines first end days hours moments quiet =
+    put (codes "quiet") quiet (put (codes "moments") moments (put (codes "hours") hours (put (codes "days") days (view_members v lines first end))))
 
 -- and with the second zone
-abbrev pub object_with : View → ShownTime → ShownTime → Data → Data → Data → Data → Data
-object_with v first end days hours moments quiet =
-    object (with_optional (codes "shown_zone") (other_zone v.other) (plan_members v first end days hours moments quiet))
+abbrev pub object_with : View → List (Bor (List ℕ)) → ShownTime → ShownTime → Data → Data → Data → Data → Data
+object_with v lines first end days hours moments quiet =
+    object (with_optional (codes "shown_zone") (other_zone v.other) (plan_members v lines first end days hours moments quiet))
 
 -- with those that are told
-abbrev pub plan_object : View → Told → Data
-plan_object v told =
-    object_with v told.first told.end
+abbrev pub plan_object : View → List (Bor (List ℕ)) → Told → Data
+plan_object v lines told =
+    object_with v lines told.first told.end
     (array (items_of (map day_object told.days))) (counts told.hours)
     (array (items_of (map (moment_object v.plan.now.starts.items) told.moments))) (array (items_of (map window_object told.quiet)))
 
--- it is that of a view
-pub record IsPlanData (v : View) (d : Data) : Type 0 where
+-- it is that of a view, with lines that are to be read first
+pub record IsPlanData (v : View) (lines : List (Bor (List ℕ))) (d : Data) : Type 0 where
   pub told : Told
   pub is_told : IsTold v told
-  pub data_is : d ≡ plan_object v told
+  pub data_is : d ≡ plan_object v lines told
 
 -- and this is its text, with no blanks
-pub record IsPlanJson (v : View) (text : List ℕ) : Type 0 where
+pub record IsPlanJson (v : View) (lines : List (Bor (List ℕ))) (text : List ℕ) : Type 0 where
   pub told : Told
   pub is_told : IsTold v told
-  pub text_is : text ≡ compact_text (plan_object v told)
+  pub text_is : text ≡ compact_text (plan_object v lines told)

@@ -110,6 +110,7 @@ fn own_members(
     let mut members = Map::new(alloc);
     put_text(alloc, &mut members, "file", job.file)?;
     put_flag(alloc, &mut members, "frequent", count.is_frequent)?;
+    put_flag(alloc, &mut members, "ignored", job.is_ignored)?;
     put_count(alloc, &mut members, "line", job.line)?;
     put_count(alloc, &mut members, "starts", count.starts)?;
     put_text(alloc, &mut members, "times", job.times)?;

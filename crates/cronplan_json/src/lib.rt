@@ -9,6 +9,7 @@ mod members;
 mod moments;
 mod numbers;
 mod quiet;
+mod texts;
 
 pub use document::{VERSION, plan_json};
 pub use quiet::QUIET_SECONDS;

@@ -1,13 +1,14 @@
 //! What a plan answers, as it is written.
-ghost use Rattle.std.specs.Prelude.{◌≡◌, List, IfErr, IfOk, OnOk, string_bytes};
+ghost use Rattle.std.specs.Prelude.{◌≡◌, List, IfErr, IfOk, OnOk, map, string_bytes};
 ghost use Rattle.jiff.specs.ZoneView.{plain_zone};
 ghost use Rattle.croncheck_output.specs.Output.{written_of, WritesApart};
+ghost use Rattle.croncheck_planner.specs.Planner.{is_numbered};
 ghost use Rattle.croncheck_planner.specs.PlanAnswers.{WritesAnswers, WritesLeftOut, WritesOwnAnswers, WritesOtherAnswers, WritesOnZone, WritesAnswersOn, WritesOnClock, AreAnswersOn, AreOwnAnswers, IsLeftOut, IsOtherView, IsClockIn, IsNoClockIn, IsFollowedIn, clock_head, unfollowed_text, IsViewOf, job_planned, job_told, jobs_planned, jobs_told};
 
 use crate::plan::Found;
 use crate::plan::dropped::dropped_of;
 use crate::plan::list::{head_text, whose_text};
-use crate::planner::{ClockNames, Planned};
+use crate::planner::{ClockNames, Planned, is_numbered};
 use croncheck_output::output::Output;
 use croncheck_reading::progress::Terms;
 use croner::errors::CronError;
@@ -277,6 +278,7 @@ pub(crate) fn view_of<'v>(
     jobs: &'v [Job<'v>],
 ) -> View<'v>
     ensures zone { result.zone.now ≡ zone.now }
+    ensures jobs { result.jobs.now ≡ jobs.now }
     ensures view { (planned : List Planned) → jobs_told jobs.now ≡ jobs_planned planned → IsViewOf terms.now.settings.now planned found.now result }
 {
     let table = terms.settings.changes.start.table();
@@ -294,7 +296,7 @@ pub(crate) fn view_of<'v>(
     }
 }
 
-/// The jobs of a plan, as its forms take them. The only error is lack of memory.
+/// The jobs of a plan, as its forms take them, none of them marked as one whose file cron ignores. The only error is lack of memory.
 pub(crate) fn jobs_of<'p>(alloc: Global, jobs: &'p [Planned]) -> Result<Vec<Job<'p>>, AllocError>
     ensures { IfOk result (λ told. jobs_told told.items ≡ jobs_planned jobs.now) }
 {
@@ -303,6 +305,32 @@ pub(crate) fn jobs_of<'p>(alloc: Global, jobs: &'p [Planned]) -> Result<Vec<Job<
         told.push(job_of_planned(job))?;
     }
     Ok(told)
+}
+
+/// The same, with those marked whose files have one of these numbers: cron ignores them.
+pub(crate) fn marked_jobs<'p>(
+    alloc: Global,
+    ignored: &[u64],
+    jobs: &'p [Planned],
+) -> Result<Vec<Job<'p>>, AllocError>
+    ensures told { IfOk result (λ told. jobs_told told.items ≡ jobs_planned jobs.now) }
+    ensures marked { IfOk result (λ told. map (λ j. j.is_ignored) told.items ≡ map (λ job. is_numbered ignored.now job.number) jobs.now) }
+{
+    let mut told = Vec::new(alloc);
+    for job in jobs {
+        told.push(marked_job(ignored, job))?;
+    }
+    Ok(told)
+}
+
+fn marked_job<'p>(ignored: &[u64], job: &'p Planned) -> Job<'p>
+    ensures told { job_told result ≡ job_planned job.now }
+    ensures marked { result.is_ignored ≡ is_numbered ignored.now job.now.number }
+{
+    Job {
+        is_ignored: is_numbered(ignored, job.number),
+        ..job_of_planned(job)
+    }
 }
 
 fn job_of_planned(job: &Planned) -> Job<'_>
@@ -316,6 +344,7 @@ fn job_of_planned(job: &Planned) -> Job<'_>
         user: job.user.as_str(),
         times: job.times.as_str(),
         command: job.command.as_slice(),
+        is_ignored: false,
         equal: 0,
     }
 }

@@ -41,6 +41,7 @@ pub(crate) fn view_beside<'v>(
     jobs: &'v [Job<'v>],
 ) -> View<'v>
     ensures zone { result.zone.now ≡ string_bytes names.now.zone }
+    ensures jobs { result.jobs.now ≡ jobs.now }
     ensures view { (planned : List Planned) → jobs_told jobs.now ≡ jobs_planned planned → IsViewOf terms.now.settings.now planned found.now result }
     ensures other { IsOtherTable terms.now.shared.now.other_zone found.now.plan.span table.now
         → IsOtherClockIn terms.now.shared.now.other_zone (string_bytes names.now.other) found.now.plan.span result.other }

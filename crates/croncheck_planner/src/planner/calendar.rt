@@ -3,7 +3,7 @@ ghost use Rattle.std.specs.Prelude.{IfOk};
 ghost use Rattle.croncheck_planner.specs.PlanFiles.{IsCalendar};
 
 use super::Planner;
-use crate::plan::answers::{jobs_of, view_of};
+use crate::plan::answers::{marked_jobs, view_of};
 use croncheck_reading::progress::Terms;
 use croner::errors::CronError;
 use cronplan_forms::{MOST_EVENTS, Naming, plan_calendar};
@@ -28,7 +28,9 @@ impl Planner {
         ensures { IfOk result (IsCalendar terms.now.settings.now self.now naming.entry) }
     {
         let found = self.found_starts(terms)?;
-        let told = jobs_of(terms.alloc, self.jobs.as_slice())?;
+        let ignored = self.ignored.as_slice();
+        let jobs = self.jobs.as_slice();
+        let told = marked_jobs(terms.alloc, ignored, jobs)?;
         let view = view_of(terms, self.names.zone.as_str(), &found, told.as_slice());
         let text = plan_calendar(terms.alloc, view, naming)?;
         let starts = found.plan.starts.as_slice();

@@ -1,12 +1,12 @@
 //! The plan of files as a page.
-ghost use Rattle.std.specs.Prelude.{◌≡◌, ◌++◌, [], map, IfOk, OnOk, string_bytes};
+ghost use Rattle.std.specs.Prelude.{◌≡◌, [], map, IfOk, OnOk, string_bytes};
 ghost use Rattle.crontab.specs.Entries.{entry_seen};
 ghost use Rattle.croncheck_output.specs.Output.{written_of};
-ghost use Rattle.croncheck_planner.specs.PagePlans.{brief_of, is_at_reboot, is_grave, is_told_at_reboot, is_warning, ignored_line, ignored_text, KeepsIf, line_told, lines_told, reboot_line, TellsLine, warning_told, warnings_in, warnings_of};
+ghost use Rattle.croncheck_planner.specs.PagePlans.{brief_of, is_warning, KeepsIf, line_told, lines_told, TellsLine, warning_told, warnings_in, warnings_of};
 ghost use Rattle.croncheck_planner.specs.PlanFiles.{IsPage};
 ghost use Rattle.croncheck_planner.specs.Planner.{job_planned, jobs_seen};
-ghost use Rattle.croncheck_shown.specs.Shown.{place_text};
 
+use super::ignored::write_told;
 use super::{ClockNames, Planner, is_refused_by_user, write_plan_ending};
 use crate::plan::answers::jobs_of;
 use crate::plan::beside::{other_table, view_beside};
@@ -20,7 +20,6 @@ use croncheck_reading::tally::one_more;
 use croncheck_report::location::Location;
 use croncheck_report::report::Report;
 use croncheck_report::settings::Settings;
-use croncheck_report::told::Told;
 use croncheck_runs::runs::Listing;
 use croner::errors::CronError;
 use cronplan_forms::PlanAsked;
@@ -83,16 +82,17 @@ impl PagePlanner {
         Ok(text)
     }
 
-    // Takes the job of a line at a place, if it has one that is planned, and returns whether it has. `outcome` is what the parser makes of
+    // Takes the job of a line at a place, in the file with this number, if it has one that is planned, and returns whether it has. `outcome` is what the parser makes of
     // its times.
     fn take_job(
         &mut self,
         terms: &Terms<'_, '_>,
+        number: u64,
         place: Location<'_>,
         entry: &Entry<'_>,
         outcome: Outcome,
     ) -> io::Result<bool>
-        ensures kept { IfOk result (KeepsIf terms.now.settings.now self.old.planner.asked self.old.planner.above.items place.entry.file.now place.entry.line (entry_seen entry.now)
+        ensures kept { IfOk result (KeepsIf terms.now.settings.now self.old.planner.asked self.old.planner.above.items number place.entry.file.now place.entry.line (entry_seen entry.now)
             (job_planned terms.now.settings.now (entry_seen entry.now) outcome) (jobs_seen self.old.planner.schedules self.old.planner.jobs) (jobs_seen self.new.planner.schedules self.new.planner.jobs)) }
         ensures above { self.new.planner.above ≡ self.old.planner.above }
         ensures asked { self.new.planner.asked ≡ self.old.planner.asked }
@@ -104,7 +104,7 @@ impl PagePlanner {
         }
         match outcome {
             Outcome::Job(job) => {
-                self.planner.keep(terms, place, job, entry)?;
+                self.planner.keep(terms, number, place, job, entry)?;
                 Ok(true)
             }
             Outcome::NoText
@@ -132,8 +132,7 @@ impl PagePlanner {
             self.found.push(found)?;
             return Ok(());
         }
-        let text = ignored_text(terms.alloc, place, report, found.as_slice())?;
-        output.write_apart(text.as_str())
+        write_told(terms.alloc, place, report, found.as_slice(), output)
     }
 }
 
@@ -144,7 +143,7 @@ impl Form for PagePlanner {
 
     ghost takes = { λ terms old y new. PlansLine terms.settings.now old y new };
 
-    ghost ends_file = { λ terms planner stand old new. WritesPlanEnding terms.settings.now stand old new };
+    ghost ends_file = { λ terms planner stand old new. WritesPlanEnding terms.settings.now planner.planner.jobs.items stand old new };
 
     ghost ends = { λ terms planner old new. new ≡ old };
 
@@ -167,7 +166,7 @@ impl Form for PagePlanner {
             file: progress.file.name(),
             line: one_more(progress.lines),
         };
-        let is_planned = self.take_job(terms, next, &entry, outcome)?;
+        let is_planned = self.take_job(terms, progress.files, next, &entry, outcome)?;
         self.planner.take_heading(heading);
         let settings = brief_of(terms.settings);
         let brief = Terms::new(terms.alloc, &settings, terms.shared);
@@ -187,7 +186,7 @@ impl Form for PagePlanner {
         progress: &Progress,
         output: &mut Output<W>,
     ) -> io::Result<()> {
-        write_plan_ending(terms, progress, output)
+        write_plan_ending(terms, self.planner.jobs.as_slice(), progress, output)
     }
 
     fn end<W: Write>(&self, _terms: &Terms<'_, '_>, _output: &mut Output<W>) -> io::Result<()> {
@@ -204,85 +203,6 @@ fn brief_of<'t>(settings: &Settings<'t>) -> Settings<'t>
         previous: None,
         tells_often: false,
         ..*settings
-    }
-}
-
-// ---- what cron ignores
-
-// What is told of a line without a job in the plan: a line of text for each thing that is wrong, and for a job that starts with the machine.
-fn ignored_text(
-    alloc: Global,
-    place: Location<'_>,
-    report: &Report<'_, '_>,
-    found: &[Finding],
-) -> Result<String, AllocError>
-    ensures { IfOk result (λ text. string_bytes text ≡ ignored_text place.entry.file.now place.entry.line report.now found.now) }
-{
-    let mut text = String::new(alloc);
-    for finding in found {
-        push_ignored(&mut text, place, finding)?;
-    }
-    if is_at_reboot(report) {
-        push_reboot(&mut text, place)?;
-    }
-    Ok(text)
-}
-
-#[tactic(auto, unfolding(crate::specs::PagePlans::reboot_line))]
-fn push_reboot(text: &mut String, place: Location<'_>) -> Result<(), AllocError>
-    ensures { OnOk result (string_bytes text.new ≡ string_bytes text.old ++ reboot_line place.entry.file.now place.entry.line) }
-{
-    push_place(text, place)?;
-    text.push_str("starts as the machine does: it has no time in a plan\n")
-}
-
-// Puts after a text a thing that is wrong.
-fn push_ignored(text: &mut String, place: Location<'_>, finding: &Finding) -> Result<(), AllocError>
-    ensures { OnOk result (string_bytes text.new ≡ string_bytes text.old ++ ignored_line place.entry.file.now place.entry.line finding.now) }
-{
-    if !is_grave(finding.severity) {
-        return Ok(());
-    }
-    push_place(text, place)?;
-    text.push_str(finding.text.as_str())?;
-    text.push_str("\n")
-}
-
-fn push_place(text: &mut String, place: Location<'_>) -> Result<(), AllocError>
-    ensures { OnOk result (string_bytes text.new ≡ string_bytes text.old ++ place_text place.entry.file.now place.entry.line) }
-{
-    let (file, line) = (place.file, place.line);
-    write!(text, "{file}:{line}  ")
-}
-
-// Whether cron makes something else of a line than its writer may think.
-fn is_grave(severity: Severity) -> bool
-    ensures { result ≡ is_grave severity }
-{
-    match severity {
-        Severity::Error | Severity::Warning => true,
-        Severity::Note => false,
-    }
-}
-
-// Whether it is of a job that starts as the machine does.
-fn is_at_reboot(report: &Report<'_, '_>) -> bool
-    ensures { result ≡ is_at_reboot report.now }
-{
-    match report {
-        Report::Job(job) => is_told_at_reboot(&job.times),
-        Report::Silent | Report::Misnamed(_) | Report::Setting { .. } | Report::Refused { .. } => {
-            false
-        }
-    }
-}
-
-fn is_told_at_reboot(told: &Told<'_>) -> bool
-    ensures { result ≡ is_told_at_reboot told.now }
-{
-    match told {
-        Told::Reboot => true,
-        Told::Nothing | Told::Runs { .. } => false,
     }
 }
 

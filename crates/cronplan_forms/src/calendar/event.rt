@@ -1,6 +1,6 @@
 //! The events of a calendar.
 ghost use Rattle.std.specs.Prelude.{◌≡◌, ◌++◌, codes, IfOk, OnOk, string_bytes};
-ghost use Rattle.cronplan_forms.specs.Calendars.{property_line, text_line, moment_text, uid_text, times_text, summary_text, words_text, duration_line, event_begin, event_times, event_words, event_end, event_text};
+ghost use Rattle.cronplan_forms.specs.Calendars.{property_line, text_line, moment_text, uid_text, times_text, summary_text, ignored_text, words_text, duration_line, event_begin, event_times, event_words, event_end, event_text};
 
 use super::moment::moment_text;
 use super::uid::uid_text;
@@ -144,11 +144,23 @@ fn push_count(text: &mut String, count: u32) -> Result<(), AllocError>
     write!(text, " ({count} times)")
 }
 
-// The words for a job's times, and after a line feed its file and line.
+// The words for a job's times, in the next line its file and line, and in a third one that cron ignores that file, if it does.
 #[tactic(auto, unfolding(crate::specs::Calendars::words_text))]
 fn words_text(alloc: Global, job: Job<'_>) -> Result<String, AllocError>
     ensures { IfOk result (λ t. string_bytes t ≡ words_text job.entry) }
 {
     let (words, file, line) = (job.words, job.file, job.line);
-    format!(in alloc; "{words}\n{file}:{line}")
+    let mut text = format!(in alloc; "{words}\n{file}:{line}")?;
+    push_ignored(&mut text, job.is_ignored)?;
+    Ok(text)
+}
+
+// What is said if cron ignores the whole file of a job.
+fn push_ignored(text: &mut String, is_ignored: bool) -> Result<(), AllocError>
+    ensures { OnOk result (string_bytes text.new ≡ string_bytes text.old ++ ignored_text is_ignored) }
+{
+    if !is_ignored {
+        return Ok(());
+    }
+    text.push_str("\nCron ignores this file, and doesn't start the job until the file is mended.")
 }

@@ -1,10 +1,10 @@
 //! The calendar of a plan.
 ghost use Rattle.std.specs.Prelude.{◌≡◌, ◌≤◌, IfOk, IfSome, List, [], length, map, pos, slice_get, string_bytes, take, true};
-ghost use Rattle.std.specs.List.{All, count_by};
+ghost use Rattle.std.specs.List.{All, count_by, list_any};
 ghost use Rattle.croner_base.specs.Table.{is_table_second};
 ghost use Rattle.croner_base.specs.Civil.{wall_second};
 ghost use Rattle.cronplan_forms.specs.Answers.{left_out_text as what_is_left_out};
-ghost use Rattle.cronplan_forms.specs.PlanCalendars.{IsEventOf, IsUtcTable, IsPlanCalendar, equal_before, is_same_job};
+ghost use Rattle.cronplan_forms.specs.PlanCalendars.{IsEventOf, IsUtcTable, IsPlanCalendar, equal_before, is_ignored, is_same_job};
 ghost use Rattle.cronplan_forms.specs.Calendars.{calendar_text, most_events};
 
 use super::event::Event;
@@ -29,7 +29,7 @@ pub struct Naming<'n> {
 }
 
 /// The file of a plan's calendar: an event for each of its first starts, at most `MOST_EVENTS`. Its description says what it leaves
-/// out. Each of several equal jobs has its own events.
+/// out, and both it and an event say so of a job whose file cron ignores. Each of several equal jobs has its own events.
 ///
 /// The only error is lack of memory.
 pub fn plan_calendar(
@@ -46,11 +46,25 @@ pub fn plan_calendar(
     let calendar = Calendar {
         name: naming.name,
         left_out: left_out.as_str(),
+        has_ignored: has_ignored(view.jobs),
         stamp: naming.stamp,
         lasts: naming.lasts,
         starts: view.plan.starts.len(),
     };
     calendar_text(alloc, calendar, events.as_slice())
+}
+
+// Whether cron ignores the whole file of one of these jobs.
+fn has_ignored(jobs: &[Job<'_>]) -> bool
+    ensures { result ≡ list_any is_ignored jobs.now }
+{
+    jobs.iter().any(|job| is_ignored(job))
+}
+
+fn is_ignored(job: &Job<'_>) -> bool
+    ensures { result ≡ is_ignored job.now }
+{
+    job.is_ignored
 }
 
 // The first of some starts, as many as a calendar has events.
@@ -127,6 +141,7 @@ const NO_JOB: Job<'static> = Job {
     user: "",
     times: "",
     command: &[],
+    is_ignored: false,
     equal: 0,
 };
 

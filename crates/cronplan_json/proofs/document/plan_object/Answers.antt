@@ -25,7 +25,7 @@ returns c =
         days_are = days.1;
         hours_are = hours.1;
       };
-      data_is = view-Object c.put_zone.new.members ∙ with_lists c.args.view told (members_view c.in_ok-members.members.entries) (members_view c.put.new.map.entries) (members_view c.put-2.new.map.entries)
+      data_is = view-Object c.put_zone.new.members ∙ with_lists c.args.view c.args.read_first.now told (members_view c.in_ok-members.members.entries) (members_view c.put.new.map.entries) (members_view c.put-2.new.map.entries)
           (members_view c.put-3.new.map.entries) (members_view c.put-4.new.map.entries) (members_view c.put_zone.new.members.entries) (view c.in_ok-days.days) (view c.in_ok-hours.hours)
           (view c.in_ok-moments.moments) (view c.in_ok-quiet.quiet) c.in_ok-members.ensures c.in_ok-put.ensures.ok c.in_ok-put-2.ensures.ok c.in_ok-put-3.ensures.ok c.in_ok-put-4.ensures.ok
           c.in_ok-put_zone.ensures days.2 hours.2 moments.2 quiet.2;

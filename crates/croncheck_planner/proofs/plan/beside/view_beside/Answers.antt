@@ -6,6 +6,9 @@ use Rattle.croncheck_planner.proofs.plan.beside.view_beside.Goals as goal
 pub returns-clause-zone : goal.returns-clause-zone
 returns-clause-zone c = c.view_of.ensures.zone ∙ c.as_str-2.ensures.value
 
+pub returns-clause-jobs : goal.returns-clause-jobs
+returns-clause-jobs c = c.view_of.ensures.jobs
+
 pub returns-clause-view : goal.returns-clause-view
 returns-clause-view c = λ planned same.
     let view = c.view_of.ensures.view planned same in

@@ -8,6 +8,7 @@ returns c =
     let calendar : Calendar = record {
       name = c.args.naming.name;
       left_out = c.as_str.result;
+      has_ignored = c.has_ignored.result;
       stamp = c.args.naming.stamp;
       lasts = c.args.naming.lasts;
       starts = c.len.result;
@@ -16,7 +17,7 @@ returns c =
     (λ t is. (
       calendar,
       c.in_ok-events.events.items,
-      record { name = search rules; left_out = search rules; stamp = search rules; lasts = search rules; starts = search rules; events_are = search rules; each = search rules },
+      record { name = search rules; left_out = search rules; has_ignored = search rules; stamp = search rules; lasts = search rules; starts = search rules; events_are = search rules; each = search rules },
       search rules,
     ))
     c.calendar_text.ensures

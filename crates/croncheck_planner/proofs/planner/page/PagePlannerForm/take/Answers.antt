@@ -34,7 +34,7 @@ returns g c =
       found = c.in_ok-found.found;
       entry_is = refl;
       read = c.in_ok-outcome.ensures;
-      kept = kept_same s _ _ _ _ _ _ _ _ y.is _ _ (jobs_seen begun.schedules begun.jobs) _ (jobs_seen kept.planner.schedules kept.planner.jobs) _
+      kept = kept_same s _ _ _ _ _ _ _ _ _ y.is _ _ (jobs_seen begun.schedules begun.jobs) _ (jobs_seen kept.planner.schedules kept.planner.jobs) _
           c.begin_file.ensures.asked c.begin_file.ensures.above c.name.ensures c.one_more.ensures
           (ap (λ (schedules : Vec Schedule Global). jobs_seen schedules begun.jobs) c.begin_file.ensures.schedules ∙ ap (λ (jobs : Vec Planned Global). jobs_seen before.schedules jobs) c.begin_file.ensures.jobs)
           (sym (ap (λ (p : Planner). jobs_seen p.schedules p.jobs) c.tell.ensures.planner

@@ -1,7 +1,7 @@
 use Rattle.std.proofs.Common.{◌≡◌, take, string_bytes}
 use Rattle.std.specs.List.{flat_map}
-use Rattle.croncheck_planner.specs.PagePlans.{ignored_line}
-use Rattle.croncheck_planner.proofs.planner.page.ignored_text.Given as goal
+use Rattle.croncheck_planner.specs.Ignored.{ignored_line}
+use Rattle.croncheck_planner.proofs.planner.ignored.ignored_text.Given as goal
 
 abbrev pub invariant-loop-finding : goal.invariant-loop-finding
 invariant-loop-finding l = record {
