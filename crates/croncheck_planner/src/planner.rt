@@ -5,7 +5,7 @@ ghost use Rattle.croner.specs.Views.{job_of as meaning_of_job};
 ghost use Rattle.crontab.specs.Content.{IsOutcome};
 ghost use Rattle.crontab.specs.Entries.{entry_seen};
 ghost use Rattle.croncheck_output.specs.Output.{Written, written_of};
-ghost use Rattle.croncheck_planner.specs.Planner.{seen, planned_seen, job_shown, schedule_of, label_text, command_after, user_text, command_of, times_of, above_at, is_refused_by_user, with_job, jobs_seen, Adds, IsFoundBy, Keeps, Passes, PlansOutcome, WritesListed, WritesAnswered, WritesPassed, WritesPlan, has_jobs, ignored_after, is_numbered, with_number, planned_ending, WritesPlanEnding};
+ghost use Rattle.croncheck_planner.specs.Planner.{seen, planned_seen, job_shown, schedule_of, label_text, command_after, user_text, command_of, times_of, above_at, is_refused_by_user, with_job, jobs_seen, Adds, IsFoundBy, Keeps, Passes, PlansOutcome, WritesListed, WritesAnswered, WritesPassed, WritesPlan, has_jobs, ignored_after, is_numbered, with_number, planned_ending, planned_text, WritesPlanEnding};
 ghost use Rattle.croncheck_output.specs.Escaped.{spaced};
 ghost use Rattle.croncheck_reading.specs.Stand.{stand_of};
 ghost use Rattle.croncheck_report.specs.Told.{IsDescription};
@@ -415,12 +415,20 @@ fn has_jobs(number: u64, jobs: &[Planned]) -> bool
 fn planned_ending(has_some: bool, mut ending: String) -> Result<String, AllocError>
     ensures { IfOk result (λ text. string_bytes text ≡ planned_ending has_some (string_bytes ending)) }
 {
-    if has_some && !ending.is_empty() {
-        ending.push_str(
-            "  its jobs are in this plan, as cron would start them once that is mended\n",
-        )?;
+    if !ending.is_empty() {
+        push_planned(&mut ending, has_some)?;
     }
     Ok(ending)
+}
+
+// Appends to a text that jobs of a file are planned, where it has some.
+fn push_planned(text: &mut String, has_some: bool) -> Result<(), AllocError>
+    ensures { OnOk result (string_bytes text.new ≡ string_bytes text.old ++ planned_text has_some) }
+{
+    if !has_some {
+        return Ok(());
+    }
+    text.push_str("  its jobs are in this plan, as cron would start them once that is mended\n")
 }
 
 // Puts a number among numbers, unless it is there.
