@@ -132,7 +132,8 @@ impl PagePlanner {
             self.found.push(found)?;
             return Ok(());
         }
-        write_told(terms.alloc, place, report, found.as_slice(), output)
+        write_told(terms.alloc, place, report, found.as_slice(), output)?;
+        Ok(())
     }
 }
 
