@@ -84,8 +84,8 @@ pub trait Sources {
 /// read. A file fails if it isn't opened or isn't read to its end, and a folder if it isn't listed.
 ///
 /// The name of what fails is written to `notes` with the reason, and so is the name of what isn't read, and of a folder without a file that
-/// is; at the end follows how many jobs
-/// were read, how many lines are refused, how many have warnings, and how many files cron ignores. An error of `notes` is passed over.
+/// is; at the end follows how many jobs were read, how many lines are refused, how many have warnings, and how many files cron ignores. An
+/// error of `notes` is passed over.
 ///
 /// The error is that of what is written to, or says that memory is lacking.
 pub fn tell_files<'s, 't, S: Sources, F: Form, W: Write, N: Write>(
@@ -158,11 +158,11 @@ fn folder_fails<'s, 't, S: Sources, F: Form, W: Write, N: Write>(
             return Ok(true);
         }
     };
-    all_fails(sources, kinds, file, names.as_slice(), sink, notes)
+    listed_fails(sources, kinds, file, names.as_slice(), sink, notes)
 }
 
 // Tells of the files of these names, which are all in a folder, and answers whether one of them failed. Where none is read, that is noted.
-fn all_fails<'s, 't, S: Sources, F: Form, W: Write, N: Write>(
+fn listed_fails<'s, 't, S: Sources, F: Form, W: Write, N: Write>(
     sources: &S,
     kinds: &TermsByKind<'s, 't>,
     folder: Asked<'_>,
