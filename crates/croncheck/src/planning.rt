@@ -220,24 +220,22 @@ fn text_of(told: &[u8]) -> Result<&str, Problem> {
     }
 }
 
-// The lines of a text that have something, as a page has them.
-fn page_lines_in<'t>(rt: &HostRuntime, text: &'t str) -> Result<Vec<PageLine<'t>>, AllocError> {
-    let mut lines = Vec::new(rt.alloc());
-    for rest in text.lines() {
-        if !rest.is_empty() {
-            lines.push(PageLine { head: "", rest })?;
-        }
-    }
-    Ok(lines)
-}
-
-// The same, without the blanks around each.
+// The lines of a text that have something, without the blanks around each.
 fn lines_in<'t>(rt: &HostRuntime, text: &'t str) -> Result<Vec<&'t str>, AllocError> {
     let mut lines = Vec::new(rt.alloc());
     for line in text.lines() {
         if !line.is_empty() {
             lines.push(line.trim())?;
         }
+    }
+    Ok(lines)
+}
+
+// The same, as a page has them.
+fn page_lines_in<'t>(rt: &HostRuntime, text: &'t str) -> Result<Vec<PageLine<'t>>, AllocError> {
+    let mut lines = Vec::new(rt.alloc());
+    for rest in lines_in(rt, text)? {
+        lines.push(PageLine { head: "", rest })?;
     }
     Ok(lines)
 }
