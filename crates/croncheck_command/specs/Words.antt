@@ -5,8 +5,6 @@ use Rattle.croncheck_command.specs.declared.words.Span.TheVariants as spans
 use Rattle.croncheck_command.specs.declared.words.Verb.{Verb}
 use Rattle.croncheck_command.specs.declared.words.Verb.TheVariants as verbs
 use Rattle.croncheck_moments.specs.Moment.{IsNamed}
-use Rattle.crontab.specs.declared.line.Dialect.{Dialect}
-use Rattle.crontab.specs.declared.line.Dialect.TheVariants as dialects
 
 -- what may be asked for: up to 1000 runs, or those up to a moment that a word names
 abbrev pub IsInRange : Span → Type 0
@@ -26,16 +24,11 @@ TellsRuns verbs.Plan span = ⊤
 TellsRuns verbs.Next span = ⊤
 TellsRuns verbs.Describe span = span ≡ spans.Count 0
 
--- a file is one of patterns
-abbrev pub is_of_patterns : Dialect → Bool
-is_of_patterns dialects.Patterns = true
-is_of_patterns other = false
-
 -- what is asked is of UTC where no zone is given: a description, which depends on no clock; and what GitHub runs, where no crontab is read
 -- beside it
 abbrev pub is_of_utc : Verb → Bool → Bool → Bool
-is_of_utc verbs.Describe is_for_github are_patterns = true
-is_of_utc verbs.Next is_for_github are_patterns = is_for_github
-is_of_utc verbs.Check is_for_github are_patterns = is_for_github && are_patterns
-is_of_utc verbs.Show is_for_github are_patterns = is_for_github && are_patterns
-is_of_utc verbs.Plan is_for_github are_patterns = false
+is_of_utc verbs.Describe is_for_github are_all_patterns = true
+is_of_utc verbs.Next is_for_github are_all_patterns = is_for_github
+is_of_utc verbs.Check is_for_github are_all_patterns = is_for_github && are_all_patterns
+is_of_utc verbs.Show is_for_github are_all_patterns = is_for_github && are_all_patterns
+is_of_utc verbs.Plan is_for_github are_all_patterns = false

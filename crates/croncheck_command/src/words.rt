@@ -3,7 +3,8 @@ ghost use Rattle.std.specs.Prelude.{◌≡◌, ◌≤◌, IfOk};
 ghost use Rattle.croncheck_moments.specs.Moment.{moment_text, IsNamed};
 ghost use Rattle.std.specs.List.{list_all};
 ghost use Rattle.croncheck_files.specs.Names.{asked_seen, dialect_of};
-ghost use Rattle.croncheck_command.specs.Words.{IsInRange, AreInRange, TellsRuns, is_of_utc, is_of_patterns};
+ghost use Rattle.croncheck_command.specs.Words.{IsInRange, AreInRange, TellsRuns, is_of_utc};
+ghost use Rattle.crontab.specs.Line.{are_patterns};
 
 mod options;
 mod planning;
@@ -20,7 +21,6 @@ use croncheck_report::settings::Tongue;
 use croner::parser::{CronParser, Seconds, Year};
 use croner_presets::Preset;
 use cronplan_forms::PlanAsked;
-use crontab::line::Dialect;
 use jiff::civil::Date;
 use options::{program, verb_of, verb_with, verbs_with};
 use planning::{output, plan_asked, title};
@@ -637,7 +637,7 @@ fn language(matches: &ArgMatches<'_>) -> Tongue {
 fn zone<'w>(verb: Verb, matches: &ArgMatches<'w>, files: &[Asked<'w>]) -> &'w str {
     match matches.get_str("zone") {
         Some(word) => word,
-        None if is_of_utc(verb, is_for_github(matches), are_patterns(files)) => UTC,
+        None if is_of_utc(verb, is_for_github(matches), are_all_patterns(files)) => UTC,
         None => LOCAL,
     }
 }
@@ -648,31 +648,22 @@ fn is_for_github(matches: &ArgMatches<'_>) -> bool {
 
 // Whether what is asked is of UTC: no description depends on a clock, and GitHub runs its patterns by that one. A crontab that is read
 // beside them is of the machine's zone.
-fn is_of_utc(verb: Verb, is_for_github: bool, are_patterns: bool) -> bool
-    ensures { result ≡ is_of_utc verb is_for_github are_patterns }
+fn is_of_utc(verb: Verb, is_for_github: bool, are_all_patterns: bool) -> bool
+    ensures { result ≡ is_of_utc verb is_for_github are_all_patterns }
 {
     match verb {
         Verb::Describe => true,
         Verb::Next => is_for_github,
-        Verb::Check | Verb::Show => is_for_github && are_patterns,
+        Verb::Check | Verb::Show => is_for_github && are_all_patterns,
         Verb::Plan => false,
     }
 }
 
 // Whether all of some files are of patterns.
-fn are_patterns(files: &[Asked<'_>]) -> bool
-    ensures { result ≡ list_all (λ file. is_of_patterns (dialect_of (asked_seen file))) files.now }
+fn are_all_patterns(files: &[Asked<'_>]) -> bool
+    ensures { result ≡ list_all (λ file. are_patterns (dialect_of (asked_seen file))) files.now }
 {
-    files.iter().all(|file| is_of_patterns(file.dialect()))
-}
-
-fn is_of_patterns(dialect: Dialect) -> bool
-    ensures { result ≡ is_of_patterns dialect }
-{
-    match dialect {
-        Dialect::Patterns => true,
-        Dialect::User | Dialect::System => false,
-    }
+    files.iter().all(|file| file.dialect().are_patterns())
 }
 
 // The preset that is asked for by its name.

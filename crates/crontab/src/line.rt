@@ -77,7 +77,8 @@ impl Dialect {
         }
     }
 
-    fn are_patterns(self) -> bool
+    /// Whether its lines are patterns.
+    pub fn are_patterns(self) -> bool
         ensures { result ≡ are_patterns self }
     {
         match self {
