@@ -34,5 +34,8 @@ nobody = refl
 blanks_at_the_end : names_no_address (codes "MAILTO='root '") ≡ false
 blanks_at_the_end = refl
 
+a_user_in_two_quotes : names_no_address (codes "MAILTO=\"'root'\"") ≡ true
+a_user_in_two_quotes = refl
+
 another_setting : names_no_address (codes "MAILFROM=Cron Daemon") ≡ false
 another_setting = refl

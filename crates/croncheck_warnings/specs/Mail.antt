@@ -18,7 +18,8 @@ abbrev pub is_address : List ℕ → Bool
 is_address [] = false
 is_address (b ∷ bs) = is_alphanumeric b && list_all is_address_byte bs
 
--- a value as the commands see it: without its quotes, and without white space at its end
+-- A value as the commands see it: without its quotes, and without white space at its end. Quotes that then still stand around it belong to
+-- it here: cron's `load_env` takes them away, too, but by copying bytes over themselves, which C leaves undefined.
 abbrev pub without_quotes : List ℕ → List ℕ
 without_quotes [] = []
 without_quotes (c ∷ cs) = if is_quote c then front (kinds.But c) cs else c ∷ cs
