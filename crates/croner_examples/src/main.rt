@@ -10,6 +10,7 @@ mod next_run;
 mod own_pattern;
 mod own_time;
 mod plan;
+mod reminders;
 mod restart;
 mod scheduler;
 mod wake_ups;
@@ -25,6 +26,7 @@ use jiff::{Timestamp, Zoned};
 use job_list::add;
 use named_job::Job;
 use own_time::OfficeTime;
+use reminders::Reminders;
 use scheduler::{Task, start_due};
 
 // The next run of a job in a named zone, and the runs of a day on which that clock goes back from 3 to 2.
@@ -123,6 +125,20 @@ fn show_scheduler(rt: &HostRuntime) -> anyhow::Result<()> {
     restart::show_restart(rt, &zones)
 }
 
+// Reminders of one zone, one of which is taken out.
+fn show_reminders(rt: &HostRuntime) -> anyhow::Result<()> {
+    let table = ClockTable::new(3_600, Vec::new(rt.alloc()))?;
+    let friday = TableTime::new(&table, 1_719_572_400)?; // 2024-06-28T12:00:00 there
+    let mut reminders = Reminders::new(rt.alloc());
+    reminders.add(rt.alloc(), "0 18 * * FRI", "water the plants", friday)?;
+    let rent = reminders.add(rt.alloc(), "0 9 1 * *", "pay the rent", friday)?;
+    reminders.show_due(rt, 1_719_820_800)?; // 2024-07-01T09:00:00
+    reminders.remove(rent);
+    let next = reminders.show_due(rt, 1_719_820_800)?;
+    println!(rt; "next: {next:?}")?; // next: Some(1720198800): 18:00 of the next Friday
+    Ok(())
+}
+
 // The snippets of the guide.
 fn show_guide(rt: &HostRuntime) -> anyhow::Result<()> {
     let first = DateTime::new(2024, 7, 1, 0, 0, 0, 0)?;
@@ -142,6 +158,7 @@ fn main(rt: HostRuntime) -> anyhow::Result<()> {
     show_own(&rt)?;
     show_own_time(&rt)?;
     show_scheduler(&rt)?;
+    show_reminders(&rt)?;
     show_guide(&rt)?;
     wake_ups::main(rt)
 }
