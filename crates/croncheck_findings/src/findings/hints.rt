@@ -3,7 +3,7 @@
 //! Croner's parser says, as data, why it refuses the first part of the field that cron doesn't take; the words here say so much of that
 //! as holds for cron too. If the line looks like one of another program, what it may have been meant as is told first.
 
-use super::reasons::{reason_of, words_of_cron};
+use super::reasons::{fields_before, reason_of, words_of_cron};
 use croncheck_output::front::{COMMAND_BYTES, push_front};
 use croner::parser::{
     CronParser, Expected, ExpectedCharacter, ExpectedStar, ExpectedStep, ExpectedValue, FieldsHint,
@@ -28,7 +28,7 @@ pub(super) fn push_hint(
     part: &[u8],
 ) -> Result<(), AllocError> {
     text.push_str(words_of_cron(fault))?;
-    if let Some(sign) = foreign_sign(field) {
+    if let Some(sign) = foreign_sign_up_to(line, fields_before(fault)) {
         return push_sign(text, sign);
     }
     if let Some(words) = words_of_another(fault, line, field, part) {
@@ -61,6 +61,16 @@ fn values_of(fault: Fault) -> &'static str {
 }
 
 // ---- signs that look like others
+
+// The first such character of the fields of a line up to the one at a place, from 0: where cron passes over one, a later field is at fault.
+fn foreign_sign_up_to(line: &[u8], last: u8) -> Option<char> {
+    for place in 0..=last {
+        if let Some(sign) = foreign_sign(word_at(line, usize::from(place))) {
+            return Some(sign);
+        }
+    }
+    None
+}
 
 /// The first character of a field that isn't of ASCII and looks like a blank, a quote or nothing.
 pub(super) fn foreign_sign(field: &[u8]) -> Option<char> {
@@ -149,6 +159,11 @@ pub(super) fn words_of_schedule(word: &[u8]) -> Option<&'static str> {
     if word.starts_with(b"cron(") {
         return Some(
             "cron(..) is of AWS: write its first five fields alone, with * for ?, no year, and weekdays by name, since AWS counts them from 1 for Sunday",
+        );
+    }
+    if word.starts_with(b"at(") {
+        return Some(
+            "at(..) is of AWS, and means one time: write minute, hour, day and month, as 30 9 1 5 * for 1 May at 9:30, which then comes each year",
         );
     }
     if word.starts_with(b"rate(") || is_word(word, "every") {
@@ -322,13 +337,16 @@ fn push_expected(text: &mut String, expected: &Expected) -> Result<bool, AllocEr
         | Expected::Text(_)
         | Expected::Nickname(_)
         | Expected::Day(_) => return Ok(false),
+        Expected::Step(ExpectedStep::Number { .. }) => text.push_str(
+            ": a step is a number from 1 on, and follows * or a range: write */15 or 5-59/15",
+        )?,
         Expected::Character(ExpectedCharacter::Name { .. })
         | Expected::Value(
             ExpectedValue::Number { .. }
             | ExpectedValue::NumberBeside { .. }
             | ExpectedValue::OneSign { .. },
         )
-        | Expected::Step(ExpectedStep::Number { .. } | ExpectedStep::WithoutUnit { .. })
+        | Expected::Step(ExpectedStep::WithoutUnit { .. })
         | Expected::Star(ExpectedStar::StarAlone | ExpectedStar::OneStar) => {
             write!(text, ": {expected}")?;
         }
@@ -369,10 +387,14 @@ pub(super) enum Meant {
     /// A blank stands after the `@`.
     NoName,
     Noon,
-    /// `@every` so many minutes, which divide an hour.
+    /// `@every` so many minutes, which divide an hour, and are fewer.
     Minutes(u32),
-    /// `@every` so many hours, which divide a day.
+    /// `@every` hour, as 60 minutes too.
+    Hour,
+    /// `@every` so many hours, which divide a day, and are fewer.
     Hours(u32),
+    /// `@every` day, in hours.
+    Day,
     /// `@every` another length.
     Interval,
 }
@@ -383,7 +405,9 @@ impl fmt::Display for Meant {
             Meant::NoName => f.write_str("no blank may follow the @: write @daily"),
             Meant::Noon => f.write_str("write 0 12 * * *"),
             Meant::Minutes(minutes) => write!(f, "write */{minutes} * * * *"),
+            Meant::Hour => f.write_str("write @hourly"),
             Meant::Hours(hours) => write!(f, "write 0 */{hours} * * *"),
+            Meant::Day => f.write_str("write @daily"),
             Meant::Interval => f.write_str(
                 "an interval is a step, as */5 * * * * for each fifth minute, and begins anew with each hour or day",
             ),
@@ -403,7 +427,7 @@ pub(super) fn push_nickname_hint(
     match meant {
         Meant::NoName => write!(text, "bad time specifier: {meant}")?,
         Meant::Noon => write!(text, "bad time specifier: cron has no @noon: {meant}")?,
-        Meant::Minutes(_) | Meant::Hours(_) | Meant::Interval => {
+        Meant::Minutes(_) | Meant::Hour | Meant::Hours(_) | Meant::Day | Meant::Interval => {
             write!(text, "bad time specifier: cron has no @every: {meant}")?
         }
     }
@@ -434,6 +458,12 @@ fn second_word(line: &[u8]) -> &[u8] {
 
 // What `@every` and a length, as `5m`, may have been meant as.
 fn interval_of(length: &[u8]) -> Meant {
+    if is_one_of(length, &["1h", "60m"]) {
+        return Meant::Hour;
+    }
+    if is_word(length, "24h") {
+        return Meant::Day;
+    }
     match length {
         [digits @ .., b'm'] => match divisor_of(60, digits) {
             Some(minutes) => Meant::Minutes(minutes),

@@ -150,7 +150,7 @@ fn push_unset(text: &mut String, content: &[u8]) -> Result<(), AllocError> {
 }
 
 // How many fields stand in front of the one at fault.
-fn fields_before(fault: Fault) -> u8 {
+pub(super) fn fields_before(fault: Fault) -> u8 {
     match fault {
         Fault::Hours => 1,
         Fault::Days => 2,

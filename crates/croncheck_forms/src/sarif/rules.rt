@@ -91,7 +91,7 @@ pub const RULES: [Rule; 56] = [
     },
     Rule {
         name: "file-mode",
-        text: "Others may write to the file, so cron ignores it.",
+        text: "The file has a mode for which cron ignores it.",
     },
     Rule {
         name: "file-links",
@@ -191,7 +191,7 @@ pub const RULES: [Rule; 56] = [
     },
     Rule {
         name: "gap",
-        text: "A run is left out where the clock goes forward.",
+        text: "A run is left out where the clock changes.",
     },
     Rule {
         name: "twice",
