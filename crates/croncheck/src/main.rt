@@ -85,9 +85,19 @@ fn tell_misuse(rt: &HostRuntime, text: &str) -> u8 {
     MISUSED
 }
 
+// Nothing is said where the reader of the output has left, as head(1) does.
 fn tell_problem(rt: &HostRuntime, problem: &Problem) -> u8 {
-    let _ = eprintln!(rt; "croncheck: {problem}");
+    if !is_of_left_reader(problem) {
+        let _ = eprintln!(rt; "croncheck: {problem}");
+    }
     problem.status()
+}
+
+fn is_of_left_reader(problem: &Problem) -> bool {
+    match problem {
+        Problem::Unwritten(error) => error.kind() == ErrorKind::BrokenPipe,
+        _ => false,
+    }
 }
 
 fn status(rt: &HostRuntime, words: &[String]) -> u8 {
