@@ -88,6 +88,9 @@ impl fmt::Display for Problem {
             Problem::Unsaved(error) if error.kind() == io::ErrorKind::AlreadyExists => f.write_str(
                 "--output: its name with .part at the end is there already: another call is writing it, or was stopped while it wrote; in that case remove it",
             ),
+            Problem::Unsaved(error) if error.kind() == io::ErrorKind::NotFound => f.write_str(
+                "--output: the file isn't written: its name is empty, or has a folder that isn't there",
+            ),
             Problem::Unsaved(error) => write!(f, "--output: the file isn't written: {error}"),
             Problem::Unread => f.write_str("a file isn't read, so no plan is written"),
             Problem::OutOfMemory => f.write_str("out of memory"),
