@@ -14,6 +14,7 @@ pub struct Reminders<'t> {
 }
 
 impl<'t> Reminders<'t> {
+    /// No reminder yet.
     pub fn new(alloc: Global) -> Self {
         Reminders {
             times: CompactScheduler::new(alloc),
@@ -21,7 +22,7 @@ impl<'t> Reminders<'t> {
         }
     }
 
-    /// Adds a reminder, whose runs after a position are to come. Returns its id.
+    /// Adds a reminder, whose runs after a position are to come. Returns its id. An error leaves the reminders as they were.
     pub fn add(
         &mut self,
         alloc: Global,
@@ -39,13 +40,14 @@ impl<'t> Reminders<'t> {
         Ok(id)
     }
 
-    /// Takes a reminder out.
+    /// Takes the reminder with an id out, if there is one.
     pub fn remove(&mut self, id: u64) {
         self.times.remove(id);
         self.texts.remove(&id);
     }
 
-    /// Prints the texts that are due up to a second, in order of time. Returns the second at which to call again.
+    /// Prints the texts that are due up to a second, in order of time. Returns the second at which to call again; `None` where no run is
+    /// left.
     pub fn show_due(&mut self, rt: &HostRuntime, now: i64) -> anyhow::Result<Option<i64>> {
         for _run in 0..u64::MAX {
             let Some(due) = self.times.take_due(now)? else {

@@ -17,8 +17,13 @@ use std::fmt;
 /// How many digits a year has.
 const YEAR_LENGTH: usize = 4;
 
+const MINUTES_PER_HOUR: u32 = 60;
+
+const HOURS_PER_DAY: u32 = 24;
+
 /// Appends to a text why cron refuses a field: cron's own words, the part of the list that it doesn't take, what is wrong there, and what
-/// to write. Where nothing of this is known, it says which values the field takes.
+/// to write; where nothing of this is known, which values the field takes. Besides, it tells of a sign in an earlier field that isn't what
+/// it looks like: cron may have passed over it, and taken the next field for this one.
 pub(super) fn push_hint(
     alloc: Global,
     text: &mut String,
@@ -28,7 +33,26 @@ pub(super) fn push_hint(
     part: &[u8],
 ) -> Result<(), AllocError> {
     text.push_str(words_of_cron(fault))?;
-    if let Some(sign) = foreign_sign_up_to(line, fields_before(fault)) {
+    push_hint_of_field(alloc, text, fault, line, field, part)?;
+    match foreign_sign_before(line, fields_before(fault)) {
+        Some(sign) => {
+            text.push_str("; in a field before it")?;
+            push_sign(text, sign)
+        }
+        None => Ok(()),
+    }
+}
+
+// Puts after cron's words what is wrong with a field, and what to write.
+fn push_hint_of_field(
+    alloc: Global,
+    text: &mut String,
+    fault: Fault,
+    line: &[u8],
+    field: &[u8],
+    part: &[u8],
+) -> Result<(), AllocError> {
+    if let Some(sign) = foreign_sign(field) {
         return push_sign(text, sign);
     }
     if let Some(words) = words_of_another(fault, line, field, part) {
@@ -62,9 +86,9 @@ fn values_of(fault: Fault) -> &'static str {
 
 // ---- signs that look like others
 
-// The first such character of the fields of a line up to the one at a place, from 0: where cron passes over one, a later field is at fault.
-fn foreign_sign_up_to(line: &[u8], last: u8) -> Option<char> {
-    for place in 0..=last {
+// The first such character of so many fields of a line.
+fn foreign_sign_before(line: &[u8], count: u8) -> Option<char> {
+    for place in 0..count {
         if let Some(sign) = foreign_sign(word_at(line, usize::from(place))) {
             return Some(sign);
         }
@@ -387,13 +411,13 @@ pub(super) enum Meant {
     /// A blank stands after the `@`.
     NoName,
     Noon,
-    /// `@every` so many minutes, which divide an hour, and are fewer.
+    /// `@every` so many minutes, which divide an hour, and are fewer than it has.
     Minutes(u32),
-    /// `@every` hour, as 60 minutes too.
+    /// `@every` hour, as one hour or 60 minutes.
     Hour,
-    /// `@every` so many hours, which divide a day, and are fewer.
+    /// `@every` so many hours, which divide a day: more than one, and fewer than a day has.
     Hours(u32),
-    /// `@every` day, in hours.
+    /// `@every` day, as 24 hours.
     Day,
     /// `@every` another length.
     Interval,
@@ -458,18 +482,15 @@ fn second_word(line: &[u8]) -> &[u8] {
 
 // What `@every` and a length, as `5m`, may have been meant as.
 fn interval_of(length: &[u8]) -> Meant {
-    if is_one_of(length, &["1h", "60m"]) {
-        return Meant::Hour;
-    }
-    if is_word(length, "24h") {
-        return Meant::Day;
-    }
     match length {
-        [digits @ .., b'm'] => match divisor_of(60, digits) {
+        [digits @ .., b'm'] => match divisor_of(MINUTES_PER_HOUR, digits) {
+            Some(minutes) if minutes == MINUTES_PER_HOUR => Meant::Hour,
             Some(minutes) => Meant::Minutes(minutes),
             None => Meant::Interval,
         },
-        [digits @ .., b'h'] => match divisor_of(24, digits) {
+        [digits @ .., b'h'] => match divisor_of(HOURS_PER_DAY, digits) {
+            Some(hours) if hours == HOURS_PER_DAY => Meant::Day,
+            Some(1) => Meant::Hour,
             Some(hours) => Meant::Hours(hours),
             None => Meant::Interval,
         },
