@@ -552,7 +552,7 @@ pub fn text(note: Note) -> &'static str {
         Note::StarDay =>
             "both day fields must match, since one begins with *; where either may, write that one as a range, as 1-31/2 for */2",
         Note::StarAmongParts =>
-            "a * among other parts names each value, so that they add nothing: write * alone, or leave it out",
+            "a * among other parts names each value, so that they add nothing: write it alone if it stands first, else the whole range, as 1-31; if not each value is meant, leave it out",
         Note::UnevenStep =>
             "the step is counted anew from each month's, year's or week's first value, so that the last one is shorter: */2 in days is the 31st, and then the 1st",
         Note::EmptyPart =>
