@@ -515,7 +515,7 @@ fn finding_of_unneeded(alloc: Global, extent: Extent, name: &str) -> Result<Find
     ensures { IfOk result (λ f. finding_seen f ≡ finding_without_field Severity.Warning NOT_NEEDED.now extent) }
 {
     let text = format!(in alloc;
-        "The comment above allows {name}, which isn't found here. Take the name out, or look for a line that was changed."
+        "The comment above allows {name}, but no warning here has this name. Take the name out, or look for a line that was changed."
     )?;
     Ok(finding_without_field(Severity::Warning, NOT_NEEDED, extent, text))
 }

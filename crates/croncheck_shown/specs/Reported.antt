@@ -1,5 +1,6 @@
 -- The text of a line's report, and what a line leaves that is told so. Source: this crate's documentation of `Reporter`.
-use Rattle.std.specs.Prelude.{◌≡◌, ℕ, List, [], ◌∷◌, ◌++◌, true, false, codes, Option, Some, None, option_map, string_bytes}
+use Rattle.std.specs.Prelude.{◌≡◌, ℕ, Bool, List, [], ◌∷◌, ◌++◌, true, false, codes, Option, Some, None, option_map, string_bytes, if◌then◌else◌}
+use Rattle.std.specs.Str.{bytes_eq}
 use Rattle.croncheck_findings.specs.Findings.{Found, findings_seen, findings_of_line}
 use Rattle.croncheck_findings.specs.declared.findings.Finding.{Finding}
 use Rattle.croncheck_output.specs.declared.severity.Severity.{Severity}
@@ -28,9 +29,19 @@ named_text f = codes " " ++ (f.name.now ++ (codes ": " ++ (field_front (option_m
 abbrev pub text_after_word : Look → List ℕ → Finding → List ℕ
 text_after_word look word f = painted_text look.has_color f.severity word ++ broken_text look.width (named_text f)
 
--- what is said of a finding that is this grave: of a refusal its text alone
+-- the program of a preset refuses the pattern, which is read here
+abbrev pub is_by_program : Finding → Bool
+is_by_program f = bytes_eq f.name.now (codes "preset")
+
+-- what is said of an error: why a line is refused stands alone below it, with no name
+abbrev pub error_text : Look → Finding → List ℕ
+error_text look f =
+    if is_by_program f then text_after_word look (codes "error:") f
+    else painted_text look.has_color f.severity (broken_text look.width (string_bytes f.text))
+
+-- what is said of a finding that is this grave
 abbrev pub said_as : Look → Severity → Finding → List ℕ
-said_as look severities.Error f = painted_text look.has_color f.severity (broken_text look.width (string_bytes f.text))
+said_as look severities.Error f = error_text look f
 said_as look severities.Warning f = text_after_word look (codes "warning:") f
 said_as look severities.Note f = text_after_word look (codes "note:") f
 

@@ -61,6 +61,39 @@ from_monday_to_the_next_sunday = refl
 from_tuesday_past_it : is_of forms.ReachesSeven (codes "2/2") ≡ false
 from_tuesday_past_it = refl
 
+the_last_friday_by_a_hash : is_of forms.LastByHash (codes "FRI#L") ≡ true
+the_last_friday_by_a_hash = refl
+
+the_last_of_each_day_of_a_range : is_of forms.LastByHash (codes "MON-FRI#L") ≡ false
+the_last_of_each_day_of_a_range = refl
+
+a_hash_behind_a_range : is_of forms.NthOfRange (codes "MON-FRI#2") ≡ true
+a_hash_behind_a_range = refl
+
+a_hash_in_front_of_a_dash : is_of forms.NthOfRange (codes "2#2-3") ≡ false
+a_hash_in_front_of_a_dash = refl
+
+a_range_to_a_nearest_weekday : is_of forms.RangeModified (codes "1-5W") ≡ true
+a_range_to_a_nearest_weekday = refl
+
+a_range_to_a_last_friday : is_of forms.RangeModified (codes "MON-FRIL") ≡ true
+a_range_to_a_last_friday = refl
+
+days_before_the_last_are_no_range : is_of forms.RangeModified (codes "L-3W") ≡ false
+days_before_the_last_are_no_range = refl
+
+the_last_weekday_ends_no_range : is_of forms.RangeModified (codes "1-LW") ≡ false
+the_last_weekday_ends_no_range = refl
+
+every_second_year : is_of forms.FreeStep (codes "/2") ≡ true
+every_second_year = refl
+
+every_second_year_from_one : is_of forms.FreeStep (codes "2027/2") ≡ false
+every_second_year_from_one = refl
+
+each_year : is_of forms.FreeStep (codes "*/1") ≡ false
+each_year = refl
+
 -- ---- how often
 
 four_minutes_apart : is_frequent_by (9 ∷ []) (0 ∷ 4 ∷ []) ≡ true
@@ -88,6 +121,14 @@ every_five_minutes = refl
 of_quartz : filter (holds presets.Quartz (codes "0 0 0 L-3 * *") (codes "0" ∷ codes "0" ∷ codes "0" ∷ codes "L-3" ∷ codes "*" ∷ codes "*" ∷ []))
     (differences_looked_for presets.Quartz) ≡ its.NotOneOpenDay ∷ its.DaysBeforeLast ∷ []
 of_quartz = refl
+
+a_hash_of_a_range_in_a_list : filter (holds presets.Quartz (codes "0 0 0 ? * 2-4#2,6")
+    (codes "0" ∷ codes "0" ∷ codes "0" ∷ codes "?" ∷ codes "*" ∷ codes "2-4#2,6" ∷ [])) (differences_looked_for presets.Quartz) ≡ its.NthOfRange ∷ []
+a_hash_of_a_range_in_a_list = refl
+
+years_by_steps : filter (holds presets.Quartz (codes "0 0 0 1 1 ? */2")
+    (codes "0" ∷ codes "0" ∷ codes "0" ∷ codes "1" ∷ codes "1" ∷ codes "?" ∷ codes "*/2" ∷ [])) (differences_looked_for presets.Quartz) ≡ its.YearStepFrom1970 ∷ []
+years_by_steps = refl
 
 of_spring : filter (holds presets.Spring (codes "0 0 0 */2 * *") (codes "0" ∷ codes "0" ∷ codes "0" ∷ codes "*/2" ∷ codes "*" ∷ codes "*" ∷ []))
     (differences_looked_for presets.Spring) ≡ its.DayStepFromZero ∷ []

@@ -3,7 +3,7 @@
 use Rattle.std.specs.Prelude.{◌≡◌, ℕ, ◌-◌, Bool, false, not, ◌&&◌, ◌||◌, ◌==◌, nat_lt, List, [], ◌∷◌, length, filter, Option, Some, None, Result, Ok, Err, codes, if◌then◌else◌}
 use Rattle.std.specs.List.{list_any, after_first}
 use Rattle.std.specs.Str.{bytes_eq, str_to_ascii_uppercase}
-use Rattle.croner_base.specs.Part.{hash, comma, slash, letter_l, letter_w, contains_byte, plain_bit}
+use Rattle.croner_base.specs.Part.{hash, comma, slash, letter_l, contains_byte, plain_bit}
 use Rattle.croner_pattern.specs.Meaning.{Meaning}
 use Rattle.croner_base.specs.Field.{marked_values}
 use Rattle.croner.specs.parser.Grammar.{Refusal, Texts, fields_of, plus, question_mark, at_sign, outcome}
@@ -117,13 +117,13 @@ has_last_in_list field = contains_byte letter_l field && contains_byte comma fie
 abbrev pub has_second_hash : List ℕ → Bool
 has_second_hash field = contains_byte hash (after_first (λ b. b == hash) field)
 
--- one `#` in a list of more parts
+-- one `#` in a list of more parts, behind no range
 abbrev pub has_nth_in_list : List ℕ → Bool
-has_nth_in_list field = (contains_byte hash field && contains_byte comma field) && not (has_second_hash field)
+has_nth_in_list field = (contains_byte comma field && has_part forms.Nth field) && not (has_second_hash field)
 
--- a W in a list of more parts, and no L
+-- a W in a list of more parts, behind no range, and no L
 abbrev pub has_nearest_in_list : List ℕ → Bool
-has_nearest_in_list field = (contains_byte letter_w field && contains_byte comma field) && not (contains_byte letter_l field)
+has_nearest_in_list field = (contains_byte comma field && has_part forms.Nearest field) && not (contains_byte letter_l field)
 
 -- a step greater than the greatest value of its field
 abbrev pub has_large_step : Texts → Bool
@@ -201,6 +201,7 @@ holds_of_fields t its.StepWithoutStart = any_field forms.WithoutStart t
 holds_of_fields t its.EmptyPart = any_field forms.Empty t
 holds_of_fields t its.NotOneOpenDay = has_not_one_open_day t
 holds_of_fields t its.LastInList = has_last_in_list t.days || has_last_in_list t.days_of_week
+holds_of_fields t its.LastByHash = has_part forms.LastByHash t.days_of_week
 holds_of_fields t its.SecondNth = has_second_hash t.days_of_week
 holds_of_fields t its.LargeStep = has_large_step t
 holds_of_fields t its.MixedRange = any_named_field forms.Mixed t
@@ -208,6 +209,7 @@ holds_of_fields t its.QuestionMarkElsewhere = has_question_elsewhere t
 holds_of_fields t its.StarInList = has_star_in_any_list t
 holds_of_fields t its.DaysBeforeLast = has_days_before_last t.days
 holds_of_fields t its.RangeDown = has_range_down t
+holds_of_fields t its.RangeModified = any_day_field forms.RangeModified t
 holds_of_fields t its.StepOfZero = any_field forms.StepOfZero t
 holds_of_fields t its.LongName = any_named_field forms.LongName t
 holds_of_fields t its.DayZero = has_part forms.Zero t.days
@@ -216,12 +218,14 @@ holds_of_fields t its.SundayToSunday = has_part forms.SundayToSunday t.days_of_w
 holds_of_fields t its.PlusBeforeNumber = has_plus_digit t
 holds_of_fields t its.StepToSunday = has_part forms.ReachesSeven t.days_of_week
 holds_of_fields t its.NthInList = has_nth_in_list t.days_of_week
+holds_of_fields t its.NthOfRange = has_part forms.NthOfRange t.days_of_week
 holds_of_fields t its.NearestInList = has_nearest_in_list t.days
 holds_of_fields t its.LateNearest = has_part forms.LateNearest t.days
 holds_of_fields t its.LoneLastWeekday = bytes_eq t.days_of_week (codes "L")
 holds_of_fields t its.StepOfName = any_named_field forms.StepOfName t
 holds_of_fields t its.StepOfOpenDay = has_step_of_open_day t.days || has_step_of_open_day t.days_of_week
 holds_of_fields t its.DayStepFromZero = has_part forms.StarStep t.days
+holds_of_fields t its.YearStepFrom1970 = has_part forms.FreeStep t.years
 holds_of_fields t its.NicknameInCapitals = false
 holds_of_fields t its.Nickname = false
 holds_of_fields t its.Midnight = false

@@ -166,6 +166,19 @@ reaches_seven part = has_step part && (not (is_range part) && leads_to_seven (we
 abbrev pub is_late_nearest : List ℕ → Bool
 is_late_nearest part = bytes_eq part (codes "29W") || (bytes_eq part (codes "30W") || bytes_eq part (codes "31W"))
 
+-- an L, as of a last day, follows a `#` that is no part of a range
+abbrev pub is_last_by_hash : List ℕ → Bool
+is_last_by_hash part = not (is_range part) && bytes_eq (after_first (λ b. b == hash) part) (codes "L")
+
+-- a digit stands first, or a name
+abbrev pub begins_with_value : List ℕ → Bool
+begins_with_value text = is_digit_at 0 text || begins_with_name text
+
+-- a range of two values that ends in L or W; the days before a month's last are no range
+abbrev pub is_range_modified : List ℕ → Bool
+is_range_modified part = (is_range part && (begins_with_value part && begins_with_value (high_side part)))
+    && (ends_with letter_l part || ends_with letter_w part)
+
 -- a part has this form
 abbrev pub is_of : Form → List ℕ → Bool
 is_of forms.Empty part = length part == 0
@@ -190,6 +203,12 @@ is_of forms.StepOfName part = begins_with_name part && has_step part
 is_of forms.All part = names_all part
 is_of forms.ReachesSeven part = reaches_seven part
 is_of forms.LateNearest part = is_late_nearest part
+is_of forms.Nth part = not (is_range part) && contains_byte hash part
+is_of forms.NthOfRange part = is_range part && contains_byte hash (high_side part)
+is_of forms.LastByHash part = is_last_by_hash part
+is_of forms.Nearest part = not (is_range part) && ends_with letter_w part
+is_of forms.RangeModified part = is_range_modified part
+is_of forms.FreeStep part = (bytes_eq (front_of_step part) (codes "*") || length (front_of_step part) == 0) && is_above 1 (step_of part)
 
 -- a part of the field's list has this form
 abbrev pub has_part : Form → List ℕ → Bool

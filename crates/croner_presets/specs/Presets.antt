@@ -54,9 +54,9 @@ differences_looked_for presets.Github =
     its.Nickname ∷ its.SundayAsSeven ∷ its.OtherName ∷ its.DayModifier ∷ its.QuestionMark ∷ its.Plus ∷ its.StepWithoutStart
     ∷ its.Frequent ∷ []
 differences_looked_for presets.Quartz =
-    its.Nickname ∷ its.NotOneOpenDay ∷ its.OtherName ∷ its.Plus ∷ its.LastInList ∷ its.SecondNth ∷ its.LargeStep ∷ its.MixedRange
-    ∷ its.StarInList ∷ its.DaysBeforeLast ∷ its.RangeDown ∷ its.StepOfZero ∷ its.LongName
-    ∷ its.NthInList ∷ its.NearestInList ∷ its.LateNearest ∷ its.LoneLastWeekday ∷ its.StepOfName ∷ []
+    its.Nickname ∷ its.NotOneOpenDay ∷ its.OtherName ∷ its.Plus ∷ its.LastInList ∷ its.LastByHash ∷ its.SecondNth ∷ its.LargeStep ∷ its.MixedRange
+    ∷ its.StarInList ∷ its.DaysBeforeLast ∷ its.RangeDown ∷ its.RangeModified ∷ its.StepOfZero ∷ its.LongName
+    ∷ its.NthInList ∷ its.NthOfRange ∷ its.NearestInList ∷ its.LateNearest ∷ its.LoneLastWeekday ∷ its.StepOfName ∷ its.YearStepFrom1970 ∷ []
 differences_looked_for presets.Spring =
     its.Nickname ∷ its.RangeToSunday ∷ its.OtherName ∷ its.DayModifier ∷ its.StepWithoutStart ∷ its.EmptyPart
     ∷ its.StarInList ∷ its.DayZero ∷ its.SundayToSunday ∷ its.StepOfOpenDay ∷ its.DayStepFromZero ∷ []
@@ -78,6 +78,7 @@ kind_of its.StepWithoutStart = kinds.Refuses
 kind_of its.EmptyPart = kinds.Refuses
 kind_of its.NotOneOpenDay = kinds.Refuses
 kind_of its.LastInList = kinds.Refuses
+kind_of its.LastByHash = kinds.Refuses
 kind_of its.SecondNth = kinds.Refuses
 kind_of its.LargeStep = kinds.Refuses
 kind_of its.MixedRange = kinds.Refuses
@@ -88,6 +89,7 @@ kind_of its.ZoneInFront = kinds.Takes
 kind_of its.QuestionMarkElsewhere = kinds.Takes
 kind_of its.DaysBeforeLast = kinds.Takes
 kind_of its.RangeDown = kinds.Takes
+kind_of its.RangeModified = kinds.Takes
 kind_of its.StepOfZero = kinds.Takes
 kind_of its.LongName = kinds.Takes
 kind_of its.DayZero = kinds.Takes
@@ -97,9 +99,11 @@ kind_of its.PlusBeforeNumber = kinds.ReadsOtherwise
 kind_of its.StepToSunday = kinds.ReadsOtherwise
 kind_of its.Frequent = kinds.ReadsOtherwise
 kind_of its.NthInList = kinds.ReadsOtherwise
+kind_of its.NthOfRange = kinds.ReadsOtherwise
 kind_of its.NearestInList = kinds.ReadsOtherwise
 kind_of its.LateNearest = kinds.ReadsOtherwise
 kind_of its.LoneLastWeekday = kinds.ReadsOtherwise
 kind_of its.StepOfName = kinds.ReadsOtherwise
 kind_of its.StepOfOpenDay = kinds.ReadsOtherwise
 kind_of its.DayStepFromZero = kinds.ReadsOtherwise
+kind_of its.YearStepFrom1970 = kinds.ReadsOtherwise

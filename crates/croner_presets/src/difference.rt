@@ -33,6 +33,8 @@ pub enum Difference {
     NotOneOpenDay,
     /// An `L` in a list of several parts.
     LastInList,
+    /// A weekday with `#L`, as `FRI#L`.
+    LastByHash,
     /// Two `#` in the weekdays.
     SecondNth,
     /// A step greater than the greatest value of its field.
@@ -54,6 +56,8 @@ pub enum Difference {
     DaysBeforeLast,
     /// A range that goes down, as `FRI-MON`.
     RangeDown,
+    /// A range with `L` or `W` after it, as `1-5W`.
+    RangeModified,
     /// A step of 0.
     StepOfZero,
     /// More letters after a name, as `MONDAY`.
@@ -71,9 +75,11 @@ pub enum Difference {
     StepToSunday,
     /// Two minutes less than five apart.
     Frequent,
-    /// A `#` in a list of several parts.
+    /// A `#` in a list of several parts, behind no range.
     NthInList,
-    /// A `W` in a list of several parts.
+    /// A range with a `#` after it, as `MON-FRI#2`.
+    NthOfRange,
+    /// A `W` in a list of several parts, behind no range.
     NearestInList,
     /// `29W`, `30W` or `31W`.
     LateNearest,
@@ -85,6 +91,8 @@ pub enum Difference {
     StepOfOpenDay,
     /// Days of the month as `*/n`.
     DayStepFromZero,
+    /// Years as `*/n` or `/n`.
+    YearStepFrom1970,
 }
 
 /// How a program differs.
@@ -117,6 +125,7 @@ impl Difference {
             | Difference::EmptyPart
             | Difference::NotOneOpenDay
             | Difference::LastInList
+            | Difference::LastByHash
             | Difference::SecondNth
             | Difference::LargeStep
             | Difference::MixedRange => Kind::Refuses,
@@ -127,6 +136,7 @@ impl Difference {
             | Difference::QuestionMarkElsewhere
             | Difference::DaysBeforeLast
             | Difference::RangeDown
+            | Difference::RangeModified
             | Difference::StepOfZero
             | Difference::LongName
             | Difference::DayZero => Kind::Takes,
@@ -136,12 +146,14 @@ impl Difference {
             | Difference::StepToSunday
             | Difference::Frequent
             | Difference::NthInList
+            | Difference::NthOfRange
             | Difference::NearestInList
             | Difference::LateNearest
             | Difference::LoneLastWeekday
             | Difference::StepOfName
             | Difference::StepOfOpenDay
-            | Difference::DayStepFromZero => Kind::ReadsOtherwise,
+            | Difference::DayStepFromZero
+            | Difference::YearStepFrom1970 => Kind::ReadsOtherwise,
         }
     }
 }

@@ -166,13 +166,13 @@ fn has_second_hash(field: &str) -> bool
 fn has_nth_in_list(field: &str) -> bool
     ensures { result ≡ has_nth_in_list field.now }
 {
-    (has(field, '#') && has(field, ',')) && !has_second_hash(field)
+    (has(field, ',') && has_part(Form::Nth, field)) && !has_second_hash(field)
 }
 
 fn has_nearest_in_list(field: &str) -> bool
     ensures { result ≡ has_nearest_in_list field.now }
 {
-    (has(field, 'W') && has(field, ',')) && !has(field, 'L')
+    (has(field, ',') && has_part(Form::Nearest, field)) && !has(field, 'L')
 }
 
 fn has_days_before_last(field: &str) -> bool
@@ -313,6 +313,7 @@ impl Fields<'_> {
             Difference::LastInList => {
                 has_last_in_list(self.days) || has_last_in_list(self.weekdays)
             }
+            Difference::LastByHash => has_part(Form::LastByHash, self.weekdays),
             Difference::SecondNth => has_second_hash(self.weekdays),
             Difference::LargeStep => self.has_large_step(),
             Difference::MixedRange => self.any_named_field_has(Form::Mixed),
@@ -320,6 +321,7 @@ impl Fields<'_> {
             Difference::StarInList => self.has_star_in_any_list(),
             Difference::DaysBeforeLast => has_days_before_last(self.days),
             Difference::RangeDown => self.has_range_down(),
+            Difference::RangeModified => self.any_day_field_has(Form::RangeModified),
             Difference::StepOfZero => self.any_field_has(Form::StepOfZero),
             Difference::LongName => self.any_named_field_has(Form::LongName),
             Difference::DayZero => has_part(Form::Zero, self.days),
@@ -328,6 +330,7 @@ impl Fields<'_> {
             Difference::PlusBeforeNumber => self.has_plus_digit(),
             Difference::StepToSunday => has_part(Form::ReachesSeven, self.weekdays),
             Difference::NthInList => has_nth_in_list(self.weekdays),
+            Difference::NthOfRange => has_part(Form::NthOfRange, self.weekdays),
             Difference::NearestInList => has_nearest_in_list(self.days),
             Difference::LateNearest => has_part(Form::LateNearest, self.days),
             Difference::LoneLastWeekday => self.weekdays == "L",
@@ -336,6 +339,7 @@ impl Fields<'_> {
                 has_step_of_open_day(self.days) || has_step_of_open_day(self.weekdays)
             }
             Difference::DayStepFromZero => has_part(Form::StarStep, self.days),
+            Difference::YearStepFrom1970 => has_part(Form::FreeStep, self.years),
             Difference::NicknameInCapitals
             | Difference::Nickname
             | Difference::Midnight

@@ -2,7 +2,7 @@
 ghost use Rattle.std.specs.Prelude.{◌≡◌, ◌<◌, ◌-◌, ◌==◌, slice_index, option_map};
 ghost use Rattle.std.specs.List.{list_any, before_first, after_first};
 ghost use Rattle.croner_base.specs.Part.{number_of, contains_byte};
-ghost use Rattle.croner_presets.specs.Parts.{front_of_step, is_digit_at, is_capital, has_step, step_of, is_range, low_side, high_side, is_starred, is_number, is_above, month_of, weekday_of, name_of, is_name, is_sunday, begins_with_text, begins_with_name, has_side, ends_at_sunday, starts_at_sunday, descends, goes_down, is_mixed, is_modified, steps_above, is_long_name, weekday_number, leads_to_seven, reaches_seven, names_all, is_late_nearest, is_of, has_part, is_some};
+ghost use Rattle.croner_presets.specs.Parts.{front_of_step, is_digit_at, is_capital, has_step, step_of, is_range, low_side, high_side, is_starred, is_number, is_above, month_of, weekday_of, name_of, is_name, is_sunday, begins_with_text, begins_with_name, has_side, ends_at_sunday, starts_at_sunday, descends, goes_down, is_mixed, is_modified, steps_above, is_long_name, weekday_number, leads_to_seven, reaches_seven, names_all, is_late_nearest, is_last_by_hash, begins_with_value, is_range_modified, is_of, has_part, is_some};
 
 /// A form of a part.
 #[derive(Clone, Copy, Drop)]
@@ -51,6 +51,18 @@ pub(crate) enum Form {
     ReachesSeven,
     /// `29W`, `30W` or `31W`.
     LateNearest,
+    /// It has a `#`, and no range.
+    Nth,
+    /// A range with a `#` after it.
+    NthOfRange,
+    /// `#L`, behind no range.
+    LastByHash,
+    /// It ends with `W`, and has no range.
+    Nearest,
+    /// A range that ends with `L` or `W`.
+    RangeModified,
+    /// A star, or nothing, with a step above 1.
+    FreeStep,
 }
 
 /// The names of months, from January, and of weekdays, from Sunday.
@@ -382,6 +394,25 @@ fn is_late_nearest(part: &str) -> bool
     part == "29W" || (part == "30W" || part == "31W")
 }
 
+fn is_last_by_hash(part: &str) -> bool
+    ensures { result ≡ is_last_by_hash part.now }
+{
+    !is_range(part) && text_after(part, '#') == "L"
+}
+
+fn begins_with_value(text: &str) -> bool
+    ensures { result ≡ begins_with_value text.now }
+{
+    is_digit_at(text, 0) || begins_with_name(text)
+}
+
+fn is_range_modified(part: &str) -> bool
+    ensures { result ≡ is_range_modified part.now }
+{
+    (is_range(part) && (begins_with_value(part) && begins_with_value(high_side(part))))
+        && (part.ends_with('L') || part.ends_with('W'))
+}
+
 fn is_of(form: Form, part: &str) -> bool
     ensures { result ≡ is_of form part.now }
 {
@@ -408,6 +439,15 @@ fn is_of(form: Form, part: &str) -> bool
         Form::All => names_all(part),
         Form::ReachesSeven => reaches_seven(part),
         Form::LateNearest => is_late_nearest(part),
+        Form::Nth => !is_range(part) && has(part, '#'),
+        Form::NthOfRange => is_range(part) && has(high_side(part), '#'),
+        Form::LastByHash => is_last_by_hash(part),
+        Form::Nearest => !is_range(part) && part.ends_with('W'),
+        Form::RangeModified => is_range_modified(part),
+        Form::FreeStep => {
+            (front_of_step(part) == "*" || front_of_step(part).is_empty())
+                && is_above(1, step_of(part))
+        }
     }
 }
 

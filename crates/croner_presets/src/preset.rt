@@ -129,25 +129,29 @@ const OF_GITHUB: [Difference; 8] = [
     Difference::Frequent,
 ];
 
-const OF_QUARTZ: [Difference; 18] = [
+const OF_QUARTZ: [Difference; 22] = [
     Difference::Nickname,
     Difference::NotOneOpenDay,
     Difference::OtherName,
     Difference::Plus,
     Difference::LastInList,
+    Difference::LastByHash,
     Difference::SecondNth,
     Difference::LargeStep,
     Difference::MixedRange,
     Difference::StarInList,
     Difference::DaysBeforeLast,
     Difference::RangeDown,
+    Difference::RangeModified,
     Difference::StepOfZero,
     Difference::LongName,
     Difference::NthInList,
+    Difference::NthOfRange,
     Difference::NearestInList,
     Difference::LateNearest,
     Difference::LoneLastWeekday,
     Difference::StepOfName,
+    Difference::YearStepFrom1970,
 ];
 
 const OF_SPRING: [Difference; 11] = [

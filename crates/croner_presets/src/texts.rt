@@ -49,6 +49,7 @@ impl Difference {
             Difference::NotOneOpenDay =>
                 "wants a question mark in one of the day fields, and in one alone",
             Difference::LastInList => "refuses an L in a list of days",
+            Difference::LastByHash => "has no L after a #: write FRIL for FRI#L, and 6L for 6#L",
             Difference::SecondNth => "refuses a second # in the weekdays",
             Difference::LargeStep => "refuses a step greater than the greatest value of its field",
             Difference::MixedRange => {
@@ -67,6 +68,7 @@ impl Difference {
             Difference::RangeDown => {
                 "takes a range that goes down, which goes on at the field's first value"
             }
+            Difference::RangeModified => "takes an L or a W after a range, and passes over it",
             Difference::StepOfZero => {
                 "takes a step of 0, as none after a star, and else for the first value alone"
             }
@@ -84,6 +86,8 @@ impl Difference {
             Difference::Frequent => "starts a workflow at most once in five minutes",
             Difference::NthInList =>
                 "runs on that weekday of the list alone which has the least number, as the # says",
+            Difference::NthOfRange =>
+                "passes over a # after a range, so that it runs on each of the range's days",
             Difference::NearestInList => "goes by the least day of the list alone",
             Difference::LateNearest => {
                 "runs on a month's last day too, if this one lacks the day after it and the next month begins with a Saturday"
@@ -94,6 +98,8 @@ impl Difference {
                 "takes a day field with a question mark for a star, whatever else stands there"
             }
             Difference::DayStepFromZero => "counts days */n from 0: n, 2n and so on",
+            Difference::YearStepFrom1970 =>
+                "counts years */n from 1970: name a first year, as 2027/2",
         }
     }
 }

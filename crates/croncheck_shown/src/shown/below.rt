@@ -1,10 +1,11 @@
 //! What is found of a line, below it.
 ghost use Rattle.std.specs.Prelude.{◌≡◌, ◌++◌, ◌<◌, length, codes, option_map, IfOk, OnOk, string_bytes};
-ghost use Rattle.croncheck_shown.specs.Reported.{field_front, named_text, text_after_word, said_as, line_below, text_below};
+ghost use Rattle.croncheck_shown.specs.Reported.{field_front, named_text, text_after_word, error_text, said_as, line_below, text_below};
 
 use croncheck_findings::findings::Finding;
 use croncheck_output::look::Look;
 use croncheck_output::severity::Severity;
+use croncheck_warnings::presets::PRESET;
 use std::alloc::{AllocError, Global};
 
 /// Findings in order, each on lines of its own, whose line feed stands in front.
@@ -65,13 +66,21 @@ fn finding_text(alloc: Global, look: Look, finding: &Finding) -> Result<String, 
     ensures { IfOk result (λ text. string_bytes text ≡ said_as look finding.now.severity finding.now) }
 {
     match finding.severity {
-        Severity::Error => {
-            let text = look.broken_text(alloc, finding.text.as_str())?;
-            look.painted_text(alloc, finding.severity, text.as_str())
-        }
+        Severity::Error => error_text(alloc, look, finding),
         Severity::Warning => text_after_word(alloc, look, "warning:", finding),
         Severity::Note => text_after_word(alloc, look, "note:", finding),
     }
+}
+
+// What an error says: why a line is refused stands alone below it, and what the program of a preset refuses has a name.
+fn error_text(alloc: Global, look: Look, finding: &Finding) -> Result<String, AllocError>
+    ensures { IfOk result (λ text. string_bytes text ≡ error_text look finding.now) }
+{
+    if finding.name == PRESET {
+        return text_after_word(alloc, look, "error:", finding);
+    }
+    let text = look.broken_text(alloc, finding.text.as_str())?;
+    look.painted_text(alloc, finding.severity, text.as_str())
 }
 
 // A word in the colour of a finding, and what the finding says.
