@@ -85,14 +85,23 @@ days_before_the_last_are_no_range = refl
 the_last_weekday_ends_no_range : is_of forms.RangeModified (codes "1-LW") ≡ false
 the_last_weekday_ends_no_range = refl
 
-every_second_year : is_of forms.FreeStep (codes "/2") ≡ true
+every_second_year : is_of forms.YearStep (codes "/2") ≡ true
 every_second_year = refl
 
-every_second_year_from_one : is_of forms.FreeStep (codes "2027/2") ≡ false
+every_second_year_from_one : is_of forms.YearStep (codes "2027/2") ≡ false
 every_second_year_from_one = refl
 
-each_year : is_of forms.FreeStep (codes "*/1") ≡ false
+each_year : is_of forms.YearStep (codes "*/1") ≡ false
 each_year = refl
+
+every_eleventh_year_is_the_same : is_of forms.YearStep (codes "*/11") ≡ false
+every_eleventh_year_is_the_same = refl
+
+from_a_number_to_a_name_with_a_hash : is_of forms.Mixed (codes "2-FRI#5") ≡ true
+from_a_number_to_a_name_with_a_hash = refl
+
+down_to_a_hash : is_of forms.Down (codes "FRI-MON#2") ≡ true
+down_to_a_hash = refl
 
 -- ---- how often
 

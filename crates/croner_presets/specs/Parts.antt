@@ -35,6 +35,10 @@ low_side part = before_first (λ b. b == dash) (front_of_step part)
 abbrev pub high_side : List ℕ → List ℕ
 high_side part = after_first (λ b. b == dash) (front_of_step part)
 
+-- the same without what follows a `#`
+abbrev pub high_value : List ℕ → List ℕ
+high_value part = before_first (λ b. b == hash) (high_side part)
+
 -- the first byte of a text
 abbrev pub begins_with : ℕ → List ℕ → Bool
 begins_with c text = slice_index text 0 == c
@@ -124,12 +128,12 @@ descends a b = false
 -- two numbers that go down, or two names
 abbrev pub goes_down : List ℕ → Bool
 goes_down part = is_range part
-    && (descends (number_of (low_side part)) (number_of (high_side part)) || descends (name_of (low_side part)) (name_of (high_side part)))
+    && (descends (number_of (low_side part)) (number_of (high_value part)) || descends (name_of (low_side part)) (name_of (high_value part)))
 
 -- a range from a name to a number, or from a number to a name
 abbrev pub is_mixed : List ℕ → Bool
 is_mixed part = is_range part
-    && ((is_name (low_side part) && is_some (number_of (high_side part))) || (is_some (number_of (low_side part)) && is_name (high_side part)))
+    && ((is_name (low_side part) && is_some (number_of (high_value part))) || (is_some (number_of (low_side part)) && is_name (high_value part)))
 
 -- it ends in L or W, or has a `#`; the name of July is none of these
 abbrev pub is_modified : List ℕ → Bool
@@ -179,6 +183,14 @@ abbrev pub is_range_modified : List ℕ → Bool
 is_range_modified part = (is_range part && (begins_with_value part && begins_with_value (high_side part)))
     && (ends_with letter_l part || ends_with letter_w part)
 
+-- by this step other years are reached from 1970 than from the year 1
+abbrev pub reaches_other_years : ℕ → Bool
+reaches_other_years step = nat_lt 0 step && not (1969 % step == 0)
+
+-- a star, or nothing, with such a step
+abbrev pub is_year_step : List ℕ → Bool
+is_year_step part = (bytes_eq (front_of_step part) (codes "*") || length (front_of_step part) == 0) && passes reaches_other_years (number_of (step_of part))
+
 -- a part has this form
 abbrev pub is_of : Form → List ℕ → Bool
 is_of forms.Empty part = length part == 0
@@ -208,7 +220,7 @@ is_of forms.NthOfRange part = is_range part && contains_byte hash (high_side par
 is_of forms.LastByHash part = is_last_by_hash part
 is_of forms.Nearest part = not (is_range part) && ends_with letter_w part
 is_of forms.RangeModified part = is_range_modified part
-is_of forms.FreeStep part = (bytes_eq (front_of_step part) (codes "*") || length (front_of_step part) == 0) && is_above 1 (step_of part)
+is_of forms.YearStep part = is_year_step part
 
 -- a part of the field's list has this form
 abbrev pub has_part : Form → List ℕ → Bool

@@ -339,7 +339,7 @@ impl Fields<'_> {
                 has_step_of_open_day(self.days) || has_step_of_open_day(self.weekdays)
             }
             Difference::DayStepFromZero => has_part(Form::StarStep, self.days),
-            Difference::YearStepFrom1970 => has_part(Form::FreeStep, self.years),
+            Difference::YearStepFrom1970 => has_part(Form::YearStep, self.years),
             Difference::NicknameInCapitals
             | Difference::Nickname
             | Difference::Midnight

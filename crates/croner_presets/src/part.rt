@@ -2,7 +2,7 @@
 ghost use Rattle.std.specs.Prelude.{◌≡◌, ◌<◌, ◌-◌, ◌==◌, slice_index, option_map};
 ghost use Rattle.std.specs.List.{list_any, before_first, after_first};
 ghost use Rattle.croner_base.specs.Part.{number_of, contains_byte};
-ghost use Rattle.croner_presets.specs.Parts.{front_of_step, is_digit_at, is_capital, has_step, step_of, is_range, low_side, high_side, is_starred, is_number, is_above, month_of, weekday_of, name_of, is_name, is_sunday, begins_with_text, begins_with_name, has_side, ends_at_sunday, starts_at_sunday, descends, goes_down, is_mixed, is_modified, steps_above, is_long_name, weekday_number, leads_to_seven, reaches_seven, names_all, is_late_nearest, is_last_by_hash, begins_with_value, is_range_modified, is_of, has_part, is_some};
+ghost use Rattle.croner_presets.specs.Parts.{front_of_step, is_digit_at, is_capital, has_step, step_of, is_range, low_side, high_side, high_value, is_starred, is_number, is_above, month_of, weekday_of, name_of, is_name, is_sunday, begins_with_text, begins_with_name, has_side, ends_at_sunday, starts_at_sunday, descends, goes_down, is_mixed, is_modified, steps_above, is_long_name, weekday_number, leads_to_seven, reaches_seven, names_all, is_late_nearest, is_last_by_hash, begins_with_value, is_range_modified, reaches_other_years, passes, is_year_step, is_of, has_part, is_some};
 
 /// A form of a part.
 #[derive(Clone, Copy, Drop)]
@@ -61,8 +61,8 @@ pub(crate) enum Form {
     Nearest,
     /// A range that ends with `L` or `W`.
     RangeModified,
-    /// A star, or nothing, with a step above 1.
-    FreeStep,
+    /// A star, or nothing, with a step by which other years are reached from 1970 than from the year 1.
+    YearStep,
 }
 
 /// The names of months, from January, and of weekdays, from Sunday.
@@ -74,6 +74,9 @@ const WEEKDAYS: [&str; 7] = ["SUN", "MON", "TUE", "WED", "THU", "FRI", "SAT"];
 
 /// How many letters a name has.
 const NAME_LENGTH: usize = 3;
+
+/// How many years lie between the parser's first year, 1, and that of Quartz, 1970.
+const YEARS_BETWEEN: u16 = 1969;
 
 #[tactic(auto, using(crate::proofs::Splits::text_before))]
 fn text_before(text: &str, sign: char) -> &str
@@ -240,6 +243,12 @@ fn high_side(part: &str) -> &str
     text_after(front_of_step(part), '-')
 }
 
+fn high_value(part: &str) -> &str
+    ensures { result.now ≡ high_value part.now }
+{
+    text_before(high_side(part), '#')
+}
+
 fn is_sunday(text: &str) -> bool
     ensures { result ≡ is_sunday text.now }
 {
@@ -293,16 +302,16 @@ fn goes_down(part: &str) -> bool
     ensures { result ≡ goes_down part.now }
 {
     is_range(part)
-        && (descends(number(low_side(part)), number(high_side(part)))
-            || descends(name(low_side(part)), name(high_side(part))))
+        && (descends(number(low_side(part)), number(high_value(part)))
+            || descends(name(low_side(part)), name(high_value(part))))
 }
 
 fn is_mixed(part: &str) -> bool
     ensures { result ≡ is_mixed part.now }
 {
     is_range(part)
-        && ((is_name(low_side(part)) && number(high_side(part)).is_some())
-            || (number(low_side(part)).is_some() && is_name(high_side(part))))
+        && ((is_name(low_side(part)) && number(high_value(part)).is_some())
+            || (number(low_side(part)).is_some() && is_name(high_value(part))))
 }
 
 fn is_modified(part: &str) -> bool
@@ -413,6 +422,28 @@ fn is_range_modified(part: &str) -> bool
         && (part.ends_with('L') || part.ends_with('W'))
 }
 
+fn reaches_other_years(step: u16) -> bool
+    ensures { result ≡ reaches_other_years step }
+{
+    0 < step && YEARS_BETWEEN % step != 0
+}
+
+fn has_year_step(step: Option<u16>) -> bool
+    ensures { result ≡ passes reaches_other_years step }
+{
+    match step {
+        Some(step) => reaches_other_years(step),
+        None => false,
+    }
+}
+
+fn is_year_step(part: &str) -> bool
+    ensures { result ≡ is_year_step part.now }
+{
+    (front_of_step(part) == "*" || front_of_step(part).is_empty())
+        && has_year_step(number(step_of(part)))
+}
+
 fn is_of(form: Form, part: &str) -> bool
     ensures { result ≡ is_of form part.now }
 {
@@ -444,10 +475,7 @@ fn is_of(form: Form, part: &str) -> bool
         Form::LastByHash => is_last_by_hash(part),
         Form::Nearest => !is_range(part) && part.ends_with('W'),
         Form::RangeModified => is_range_modified(part),
-        Form::FreeStep => {
-            (front_of_step(part) == "*" || front_of_step(part).is_empty())
-                && is_above(1, step_of(part))
-        }
+        Form::YearStep => is_year_step(part),
     }
 }
 
