@@ -41,17 +41,35 @@ crates_of() {
     done
 }
 
-# Each source of the crates that are named, with its size and its time, so that one that was changed, added, removed or put back
-# shows, and after a link what it leads to. The folders take the place of the names.
-sources_of() (
+# Finds each source of the crates that the first word names, after a link what it leads to; the other words say what find does.
+find_sources() (
     cd "$top" || exit
-    for each in "$@"; do
+    folders=''
+    for each in $1; do
         for part in src specs proofs; do
-            [ ! -d "crates/$each/$part" ] || set -- "$@" "crates/$each/$part"
+            [ ! -d "crates/$each/$part" ] || folders="$folders crates/$each/$part"
         done
-        shift
     done
-    [ $# = 0 ] || find -L "$@" ! -type d -printf '%p %s %T@\n' | LC_ALL=C sort
+    shift
+    # shellcheck disable=SC2086
+    [ -z "$folders" ] || find -L $folders ! -type d "$@"
+)
+
+# Each source of the crates that are named, with its size and its time, so that one that was changed, added, removed or put back
+# shows.
+sources_of() {
+    find_sources "$1" -printf '%p %s %T@\n' | LC_ALL=C sort
+}
+
+# The checksum of all that the program is made of, wherever it lies and however old it is: the lines of crates.txt that count, and
+# the path and the contents of each source.
+sources_sum() (
+    cd "$top" || exit
+    lines=$(lines_that_count)
+    {
+        printf '%s\n' "$lines"
+        find_sources "$(printf '%s\n' "$lines" | crates_of)" -print0 | LC_ALL=C sort -z | xargs -0 sha256sum --
+    } | sha256sum | cut -d ' ' -f 1
 )
 
 # The identity of the kit whose rt is in PATH, without a call of rt: it stands in a file of the kit. Where that isn't found, the
@@ -66,12 +84,22 @@ kit() {
     fi
 }
 
+# What is said where there is no rt.
+# shellcheck disable=SC2034
+without_rt='there is no command rt: install the Rattle kit rattle-kit-13f, which README.md names, with its rt in PATH'
+
+# How the caller builds the program: the script build as it is found from the caller's folder, with the program's name unless that is
+# the name that it takes by itself.
+build_command() {
+    if [ "$(pwd -P)" = "$top" ]; then command=./build; else command=$top/build; fi
+    if [ "$program" = cronrun ]; then printf '%s\n' "$command"; else printf '%s\n' "$command $program"; fi
+}
+
 # All that the proved program depends on, where the kit is $1.
 state() {
     lines=$(lines_that_count)
     printf 'kit: %s\n%s\n' "$1" "$lines"
-    # shellcheck disable=SC2046
-    sources_of $(printf '%s\n' "$lines" | crates_of)
+    sources_of "$(printf '%s\n' "$lines" | crates_of)"
 }
 
 program_file() {
@@ -87,7 +115,10 @@ is_current() {
 
 # Records that the program was built from the state $1.
 record_built() {
-    { printf '%s\n' "$1" && program_file; } >"$stamp.new" && mv -f -- "$stamp.new" "$stamp"
+    { { printf '%s\n' "$1" && program_file; } >"$stamp.new" && mv -f -- "$stamp.new" "$stamp"; } || {
+        rm -f -- "$stamp.new"
+        return 1
+    }
 }
 
 # How many proofs rt may make side by side, where the caller has not said so: one for each processor, but no more than one for each

@@ -5,6 +5,7 @@
     tools/zones.py whole            from the first second that the library has to 2100
     tools/zones.py rules            one name of each rule that changes the clock, 2300 to 3110, where half a table is a copy
     tools/zones.py ten              ten names of as many kinds, 1970 to 2100, which takes seconds
+    tools/zones.py .. --unproved    the same by the program that tools/try has compiled
 
 Each name of the machine's database (its folders posix and right are left out) is read here by `zoneinfo`, which shares
 nothing with the library: where the zone's clock changes in the window, from the first second of FIRST to the first of
@@ -29,6 +30,8 @@ import subprocess
 import sys
 import zoneinfo
 
+import programs
+
 DAY = 86_400
 FIRST_SECOND, LAST_SECOND = -377_705_023_201, 253_402_207_200
 EARLIEST = calendar.timegm((2, 1, 1, 0, 0, 0))  # the first that Python is asked for, and the last
@@ -37,7 +40,6 @@ MARGIN = 180_000
 APART, FORWARD, BACK = 2 * DAY, DAY, 7_200
 SEARCHES, LISTINGS, ITEMS = 200, 20, 12
 FOLDERS = [pathlib.Path(path) for path in zoneinfo.TZPATH]
-PROGRAM = pathlib.Path(__file__).resolve().parent.parent / "crates" / "cronreplay" / "out" / "cronreplay"
 BEGINNING = datetime.datetime(1970, 1, 1, tzinfo=datetime.timezone.utc)
 
 # Summer time of an hour, of half an hour and of two hours; a clock that goes back by three hours; a day that is skipped; four
@@ -213,7 +215,7 @@ def told(place):
 
 def answers(lines):
     """What the program prints, by the number of the line."""
-    ran = subprocess.run([PROGRAM], input="\n".join(lines) + "\n", capture_output=True, text=True, check=False)
+    ran = subprocess.run([programs.built("cronreplay")], input="\n".join(lines) + "\n", capture_output=True, text=True, check=False)
     found = {}
     for line in ran.stdout.splitlines()[:-1]:
         number, text = line.removeprefix("line ").split(": ", 1)
@@ -276,4 +278,4 @@ def main(words):
 
 
 if __name__ == "__main__":
-    sys.exit(main(sys.argv[1:]))
+    sys.exit(main(programs.WORDS))

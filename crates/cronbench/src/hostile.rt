@@ -9,7 +9,7 @@ use std::alloc::{AllocError, Global};
 /// The beginning of a text, the piece that is repeated, and the end.
 struct Kind(&'static str, &'static str, &'static str);
 
-const KINDS: [Kind; 10] = [
+const KINDS: [Kind; 11] = [
     Kind("", ",", " * * * *"),
     Kind("", "0", " * * * *"),
     Kind("", "9", " * * * *"),
@@ -20,6 +20,7 @@ const KINDS: [Kind; 10] = [
     Kind("", "* ", ""),
     Kind("", "*/7,", " * * * *"),
     Kind("* * * * * * ", "1-5000,", ""),
+    Kind("* * * * * * ", "*/7,", ""),
 ];
 
 // The text of a kind whose pieces have so many bytes in total, or a few less.

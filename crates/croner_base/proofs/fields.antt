@@ -3,13 +3,12 @@ pub mod CountedValues
 pub mod DefaultField
 pub mod ExamplesParts
 pub mod MarkSets
-pub mod MarkedRanges
+pub mod MarkedSteps
 pub mod ModifierSets
 pub mod PartsInTurn
 pub mod ReadingsInTurn
 pub mod SignPlaces
 pub mod StarAlone
 pub mod SteppedParts
-pub mod StepsMarked
 pub mod TextPieces
 pub mod ValueRanges

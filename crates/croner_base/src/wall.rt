@@ -11,6 +11,7 @@ use crate::time::{CivilDate, CivilDateTime, CivilTime, days_in_month};
 const LAST_DAY_OF_YEAR: u32 = 31;
 
 // The next second of the same day.
+#[inline(always)]
 fn time_after(time: CivilTime) -> Option<CivilTime>
     ensures { MatchOption result (seconds_of_time time ≡ day_seconds - 1)
         (λ moved. seconds_of_time moved ≡ seconds_of_time time + 1) }
@@ -28,6 +29,7 @@ fn time_after(time: CivilTime) -> Option<CivilTime>
 }
 
 // The previous second of the same day.
+#[inline(always)]
 fn time_before(time: CivilTime) -> Option<CivilTime>
     ensures { MatchOption result (seconds_of_time time ≡ 0)
         (λ moved. seconds_of_time moved + 1 ≡ seconds_of_time time) }
@@ -82,6 +84,7 @@ pub fn day_before(date: CivilDate) -> Option<CivilDate>
 /// The next second: `2024-02-29T00:00:00` after `2024-02-28T23:59:59`. `None` after the last second of the last year of
 /// `i32`.
 #[tactic(auto, using(crate::proofs::calendar::WallSteps::seconds_after))]
+#[inline(always)]
 pub fn second_after(civil: CivilDateTime) -> Option<CivilDateTime>
     ensures { MatchOption result (IsLastDate civil.date × (seconds_of_time civil.time ≡ day_seconds - 1))
         (λ moved. wall_second moved ≡ wall_second civil +ℤ pos 1) }
@@ -98,6 +101,7 @@ pub fn second_after(civil: CivilDateTime) -> Option<CivilDateTime>
 /// The previous second: `2023-12-31T23:59:59` before `2024-01-01T00:00:00`. `None` before the first second of the first
 /// year of `i32`.
 #[tactic(auto, using(crate::proofs::calendar::WallSteps::seconds_before))]
+#[inline(always)]
 pub fn second_before(civil: CivilDateTime) -> Option<CivilDateTime>
     ensures { MatchOption result (IsFirstDate civil.date × (seconds_of_time civil.time ≡ 0))
         (λ moved. wall_second moved ≡ wall_second civil -ℤ pos 1) }

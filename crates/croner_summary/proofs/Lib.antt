@@ -2,6 +2,8 @@ pub mod AllPlain
 pub mod Examples
 pub mod ExactDays
 pub mod Exactly
+pub mod OneByOne
+pub mod InOrder
 pub mod Scheduled
 pub mod Lists
 pub mod Distances

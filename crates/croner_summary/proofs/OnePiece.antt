@@ -1,5 +1,5 @@
 -- The one piece that names plain values, and that it is the shortest.
-use Rattle.std.proofs.Common.{◌≡◌, ℕ, ◌+◌, ◌-◌, ◌%◌, ◌<◌, ◌≤◌, Bool, true, false, ◌&&◌, cond, eqb, leb, refl, ap, sym, ◌∙◌, subst, arith, inl, inr}
+use Rattle.std.proofs.Common.{◌≡◌, ℕ, ◌+◌, ◌-◌, ◌%◌, ◌<◌, ◌≤◌, Bool, true, false, ◌&&◌, cond, eqb, leb, ltb, refl, ap, sym, ◌∙◌, subst, arith, inl, inr}
 use Rattle.std.proofs.lemmas.Bool.{and_parts, cases_Bool, cases_eq, cases_lt}
 use Rattle.std.proofs.lemmas.Bool.Decides.{nat_tests}
 use Rattle.std.proofs.lemmas.Nat.{mod_below}
@@ -9,6 +9,7 @@ use Rattle.croner_summary.specs.declared.phrase.Piece.{Piece}
 use Rattle.croner_summary.specs.declared.phrase.Piece.TheVariants.{Every, EveryNth, One, Range, RangeNth}
 use Rattle.croner_summary.specs.Says.{is_stepwise, is_within}
 use Rattle.croner_summary.specs.Lengths.{words_in}
+use Rattle.croner_summary.specs.Order.{is_of_field, is_range_of}
 use Rattle.croner_summary.specs.Private.Spacing.{AreEnds, IsShortestPiece, LieEvenly, NamesPlain, stepped_piece}
 use Rattle.croner_summary.proofs.Distances.{a_step_at_least, below_step, from_later, not_stepwise, one_step, rest_of_stepwise, stepwise_of}
 
@@ -296,3 +297,38 @@ names_them least greatest f first second last step e even =
     let more = and_parts (is_stepwise step ((greatest + 1) - least)) (eqb (last + step) (greatest + 1)) parts.1 in
     nth_names least greatest f first second last step e even (number_of_test first least parts.0) more.0 (number_of_test (last + step) (greatest + 1) more.1))
     (range_nth_names least greatest f first second last step e even))
+
+-- ---- and it lies in the field
+
+fits_cond : (least greatest : ℕ) (b : Bool) (x y : Piece) → (b ≡ true → is_of_field least greatest x ≡ true) → (b ≡ false → is_of_field least greatest y ≡ true)
+    → is_of_field least greatest (cond b x y) ≡ true
+fits_cond least greatest true x y p q = p refl
+fits_cond least greatest false x y p q = q refl
+
+range_of : (least greatest : ℕ) (f : Field) (first second last : ℕ) → AreEnds least greatest f first second last → is_range_of least greatest first last ≡ true
+range_of least greatest f first second last e =
+    let low : leb least first ≡ true = grind (arith, nat_tests, e.low) in
+    let rises : ltb first last ≡ true = grind (arith, nat_tests, e.order, e.fits) in
+    let high : leb last greatest ≡ true = grind (arith, nat_tests, e.high) in
+    rw (low, rises, high) refl
+
+pub fits_field : (least greatest : ℕ) (f : Field) (first second last step : ℕ) → AreEnds least greatest f first second last → 0 < step → LieEvenly f first last step
+    → is_of_field least greatest (stepped_piece least greatest first last step) ≡ true
+fits_field least greatest f first second last step e some even =
+    let range = range_of least greatest f first second last e in
+    fits_cond least greatest (eqb step 1) (cond (eqb first least && eqb last greatest) Every (Range first last))
+    (cond (eqb first least && (is_stepwise step ((greatest + 1) - least) && eqb (last + step) (greatest + 1))) (EveryNth step) (RangeNth first last step))
+    (λ one. fits_cond least greatest (eqb first least && eqb last greatest) Every (Range first last) (λ both. refl) (λ not_both. range))
+    (λ more.
+    let above : ltb 1 step ≡ true = grind (arith, nat_tests) in
+    fits_cond least greatest (eqb first least && (is_stepwise step ((greatest + 1) - least) && eqb (last + step) (greatest + 1))) (EveryNth step) (RangeNth first last step)
+    (λ all.
+    let parts = and_parts (eqb first least) (is_stepwise step ((greatest + 1) - least) && eqb (last + step) (greatest + 1)) all in
+    let rest = and_parts (is_stepwise step ((greatest + 1) - least)) (eqb (last + step) (greatest + 1)) parts.1 in
+    let start : first ≡ least = number_of_test first least parts.0 in
+    let end : last + step ≡ greatest + 1 = number_of_test (last + step) (greatest + 1) rest.1 in
+    let inside : ltb step ((greatest + 1) - least) ≡ true = grind (arith, nat_tests, e.order, e.fits) in
+    rw (above, inside, rest.0) refl)
+    (λ other.
+    let reached : is_stepwise step (last - first) ≡ true = sym (even last (omega (arith, e.order, e.fits)) (omega arith)) ∙ e.last_plain in
+    rw (range, above, reached) refl))

@@ -44,6 +44,7 @@ one_word least greatest f phrase few piece names = let more = a_word_at_least pi
 pub only_value : (least greatest : ℕ) (f : Field) (first second : ℕ) → IsNextPlain greatest f least first → first ≤ greatest
     → IsNextPlain greatest f (first + 1) second → greatest < second → IsBestPiece least greatest f (One first)
 only_value least greatest f first second is within next beyond = record {
+  within = let low : leb least first ≡ true = grind (arith, nat_tests, is.above) in let high : leb first greatest ≡ true = grind (arith, nat_tests) in rw (low, high) refl;
   exact = λ value low high.
       elim (cases_lt value first) [
         | inl below ↦ let miss : eqb value first ≡ false = grind (arith, nat_tests) in miss ∙ sym (is.none value low below)

@@ -165,7 +165,7 @@ is_late (One n) = nat_lt 28 n
 is_late (Range first last) = nat_lt 28 last
 is_late (RangeNth first last n) = nat_lt 28 last
 
--- only months that have the day: `, in months that have a 31st`
+-- only months that have the day: ` (in months that have a 31st)`
 unfoldable pub having_text : SummaryLanguage → Option Piece → List ℕ
 having_text l (Some (One n)) = term_text l HavingOne ++ (ordinal l n ++ term_text l HavingOneEnd)
 having_text l other = term_text l HavingDays
@@ -202,6 +202,24 @@ month_days_text style d = numbers_text style d.numbers ++ after_numbers_text sty
 
 unfoldable pub names_month_day : MonthDays → Bool
 names_month_day d = is_some d.numbers || (is_counted d.from_end || is_some d.nearest)
+
+-- ---- parts
+
+-- days of the month in two parts or more: ` on the 1st and on the last day of the month`
+unfoldable pub has_month_parts : MonthDays → Bool
+has_month_parts d = (is_some d.numbers && (is_counted d.from_end || is_some d.nearest)) || (is_counted d.from_end && is_some d.nearest)
+
+-- weekdays in two: ` on each Monday and on the first Tuesday of the month`
+unfoldable pub has_week_parts : Weekdays → Bool
+has_week_parts w = is_some w.each && has_nth w
+
+-- days in parts that ` and on ` joins
+unfoldable pub has_parts : Days → Bool
+has_parts EveryDay = false
+has_parts (OfMonth d) = has_month_parts d
+has_parts (OfWeek w) = has_week_parts w
+has_parts (Either d w) = (names_month_day d && names_weekday w) || (has_month_parts d || has_week_parts w)
+has_parts (Both d w) = has_month_parts d || has_week_parts w
 
 -- ---- both
 

@@ -1,5 +1,6 @@
 pub mod Says
 pub mod Lengths
+pub mod Order
 pub mod Summaries
 pub mod English
 pub mod Swedish

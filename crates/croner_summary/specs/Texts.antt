@@ -1,5 +1,5 @@
 -- The text of a summary, and whether it tells all.
-use Rattle.std.specs.Prelude.{ℕ, nat_le, Bool, not, ◌&&◌, ◌||◌, true, List, ◌++◌, length, Option, Some, None, if◌then◌else◌}
+use Rattle.std.specs.Prelude.{ℕ, nat_le, Bool, not, ◌&&◌, ◌||◌, true, List, ◌++◌, codes, length, Option, Some, None, if◌then◌else◌}
 use Rattle.croner_summary.specs.declared.days.Days.{Days}
 use Rattle.croner_summary.specs.declared.days.Days.TheVariants.{Every as EveryDay, OfMonth, OfWeek, Either, Both}
 use Rattle.croner_summary.specs.declared.days.MonthDays.{MonthDays}
@@ -10,9 +10,9 @@ use Rattle.croner_summary.specs.declared.language.Term.{Term}
 use Rattle.croner_summary.specs.declared.language.Term.TheVariants.{NoSecond, NoMinute, NoHour, NoMonth, NoYear, NoMonthDay, NoWeekday, NoDay}
 use Rattle.croner_summary.specs.declared.phrase.Phrase.{Phrase}
 use Rattle.croner_summary.specs.declared.summary.Summary.{Summary}
-use Rattle.croner_summary.specs.Words.{term_text}
-use Rattle.croner_summary.specs.TimeWords.{time_text}
-use Rattle.croner_summary.specs.DayWords.{days_text, is_some, names_month_day, names_weekday}
+use Rattle.croner_summary.specs.Words.{only_piece, term_text}
+use Rattle.croner_summary.specs.TimeWords.{is_every, time_text}
+use Rattle.croner_summary.specs.DayWords.{days_text, has_parts, is_some, names_month_day, names_weekday}
 use Rattle.croner_summary.specs.MonthWords.{months_text, years_text}
 
 -- ---- nothing
@@ -36,8 +36,20 @@ term_of_nothing s =
 
 -- ---- the text in a style
 
+-- the months and the years: ` in May, in 2026`
+unfoldable pub season_text : Style → Summary → List ℕ
+season_text style s = months_text style s.months.pieces.items ++ years_text style s.years.pieces.items
+
+-- days in several parts, and only in some months or years. After the last part these would seem to be its own
+unfoldable pub is_season_first : Summary → Bool
+is_season_first s =
+    has_parts s.days && not (is_every (only_piece s.months.pieces.items) && is_every (only_piece s.years.pieces.items))
+
+-- the dates: ` on the 25th in May`; in several parts ` in May: on the 25th and on each Friday`
 unfoldable pub date_text : Style → Summary → List ℕ
-date_text style s = days_text style s.days ++ (months_text style s.months.pieces.items ++ years_text style s.years.pieces.items)
+date_text style s =
+    if is_season_first s then season_text style s ++ (codes ":" ++ days_text style s.days)
+    else days_text style s.days ++ season_text style s
 
 unfoldable pub some_text : Style → Summary → List ℕ
 some_text style s = time_text style s.seconds.pieces.items s.minutes.pieces.items s.hours.pieces.items ++ date_text style s

@@ -3,6 +3,7 @@
 ghost use Rattle.std.specs.Prelude.{◌≡◌, IsTrue, IfOk, IfErr};
 ghost use Rattle.croner_pattern.specs.Meaning.{meaning_of};
 ghost use Rattle.croner_summary.specs.Lengths.{AreShort, IsShort};
+ghost use Rattle.croner_summary.specs.Order.{AreDaysInOrder, AreMonthDaysInOrder, AreWeekdaysInOrder, IsInOrder};
 ghost use Rattle.croner_summary.specs.Private.Exact.{IsExact};
 ghost use Rattle.croner_summary.specs.Private.ExactDays.{IsFromEnd, AreMonthDays, AreWeekdays, AreDays, HasAllWeek};
 
@@ -40,6 +41,7 @@ fn from_end(days: &CronComponent) -> FromEnd
 fn month_days(alloc: Global, days: &CronComponent) -> Result<MonthDays, CronError>
     ensures ok { IfOk result (AreMonthDays days.now) }
     ensures short { IfOk result (λ month. IsShort 1 31 month.numbers) }
+    ensures ordered { IfOk result AreMonthDaysInOrder }
     ensures err { IfErr result (λ e. e ≡ CronError.OutOfMemory) }
 {
     let numbers = plain_phrase(alloc, 1, LONGEST_MONTH, days)?;
@@ -54,6 +56,7 @@ fn month_days(alloc: Global, days: &CronComponent) -> Result<MonthDays, CronErro
 /// The weekdays that have a modifier.
 fn weekday_phrase(alloc: Global, bit: u8, weekdays: &CronComponent) -> Result<Phrase, CronError>
     ensures ok { IfOk result (IsExact 0 6 bit weekdays.now) }
+    ensures ordered { IfOk result (IsInOrder 0 6) }
     ensures err { IfErr result (λ e. e ≡ CronError.OutOfMemory) }
 {
     marked_phrase(alloc, 0, SATURDAY, bit, weekdays)
@@ -63,6 +66,7 @@ fn weekday_phrase(alloc: Global, bit: u8, weekdays: &CronComponent) -> Result<Ph
 fn weekdays(alloc: Global, weekdays: &CronComponent) -> Result<Weekdays, CronError>
     ensures ok { IfOk result (AreWeekdays weekdays.now) }
     ensures short { IfOk result (λ week. IsShort 0 6 week.each) }
+    ensures ordered { IfOk result AreWeekdaysInOrder }
     ensures err { IfErr result (λ e. e ≡ CronError.OutOfMemory) }
 {
     let each = plain_phrase(alloc, 0, SATURDAY, weekdays)?;
@@ -100,6 +104,7 @@ fn joined_days(alloc: Global, pattern: &CronPattern) -> Result<Days, CronError>
     requires { (meaning_of pattern.now).star_day ≡ (meaning_of pattern.now).star_weekday }
     ensures ok { IfOk result (AreDays (meaning_of pattern.now)) }
     ensures short { IfOk result AreShort }
+    ensures ordered { IfOk result AreDaysInOrder }
     ensures err { IfErr result (λ e. e ≡ CronError.OutOfMemory) }
 {
     let month = month_days(alloc, &pattern.days)?;
@@ -115,6 +120,7 @@ fn joined_days(alloc: Global, pattern: &CronPattern) -> Result<Days, CronError>
 pub(crate) fn days_of(alloc: Global, pattern: &CronPattern) -> Result<Days, CronError>
     ensures ok { IfOk result (AreDays (meaning_of pattern.now)) }
     ensures short { IfOk result AreShort }
+    ensures ordered { IfOk result AreDaysInOrder }
     ensures err { IfErr result (λ e. e ≡ CronError.OutOfMemory) }
 {
     if pattern.is_dom_wildcard() && has_all_week(&pattern.days_of_week) {

@@ -4,7 +4,7 @@ ghost use Rattle.std.specs.Prelude.{◌≡◌, ◌++◌, false, codes};
 ghost use Rattle.std.specs.List.{list_any};
 ghost use Rattle.croner_summary.specs.Private.Appended.{Appends};
 ghost use Rattle.croner_summary.specs.Words.{list_text, term_text};
-ghost use Rattle.croner_summary.specs.DayWords.{after_numbers_text, between_days, both_text, dated_weekday, days_text, each_term, each_weekday, from_end_text, from_fifth, from_first, from_fourth, from_second, from_third, has_nth, has_range, having_text, is_all, is_counted, is_dated_weekday, is_first_day, is_late, is_range, is_some, late_text, month_days_text, names_month_day, named_weekdays, names_weekday, near_days, nearest, nearest_text, nth_day, nth_names, nth_on_text, nth_part, nth_weekdays, numbered, numbers_text, of_week_text, on_text, only_text, weekday_names, weekday_part, weekdays_text};
+ghost use Rattle.croner_summary.specs.DayWords.{after_numbers_text, between_days, both_text, dated_weekday, days_text, each_term, each_weekday, from_end_text, from_fifth, from_first, from_fourth, from_second, from_third, has_month_parts, has_nth, has_parts, has_range, has_week_parts, having_text, is_all, is_counted, is_dated_weekday, is_first_day, is_late, is_range, is_some, late_text, month_days_text, names_month_day, named_weekdays, names_weekday, near_days, nearest, nearest_text, nth_day, nth_names, nth_on_text, nth_part, nth_weekdays, numbered, numbers_text, of_week_text, on_text, only_text, weekday_names, weekday_part, weekdays_text};
 
 use crate::days::{Days, FromEnd, MonthDays, Weekdays};
 use crate::language::{Style, SummaryLanguage, Term, TimeUnit};
@@ -580,6 +580,42 @@ pub(crate) fn names_month_day(month: &MonthDays) -> bool
     ensures { result ≡ names_month_day month.now }
 {
     is_some(&month.numbers) || is_counted(month.from_end) || is_some(&month.nearest)
+}
+
+/// Whether days of the month are written in two parts or more.
+#[tactic(auto, unfolding(crate::specs::DayWords::has_month_parts))]
+fn has_month_parts(month: &MonthDays) -> bool
+    ensures { result ≡ has_month_parts month.now }
+{
+    let is_counted = is_counted(month.from_end);
+    let is_near = is_some(&month.nearest);
+    is_some(&month.numbers) && (is_counted || is_near) || is_counted && is_near
+}
+
+/// Whether weekdays are written in two parts.
+#[tactic(auto, unfolding(crate::specs::DayWords::has_week_parts))]
+fn has_week_parts(week: &Weekdays) -> bool
+    ensures { result ≡ has_week_parts week.now }
+{
+    is_some(&week.each) && has_nth(week)
+}
+
+/// Whether days are written in parts with `Term::AndOn` between.
+#[tactic(auto, unfolding(crate::specs::DayWords::has_parts))]
+pub(crate) fn has_parts(days: &Days) -> bool
+    ensures { result ≡ has_parts days.now }
+{
+    match days {
+        Days::Every => false,
+        Days::OfMonth(month) => has_month_parts(month),
+        Days::OfWeek(week) => has_week_parts(week),
+        Days::Either(month, week) => {
+            names_month_day(month) && names_weekday(week)
+                || has_month_parts(month)
+                || has_week_parts(week)
+        }
+        Days::Both(month, week) => has_month_parts(month) || has_week_parts(week),
+    }
 }
 
 /// Whether exactly one day of the month and one weekday are named.

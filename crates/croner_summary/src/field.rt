@@ -1,7 +1,8 @@
 //! The phrase of each field.
 
-ghost use Rattle.std.specs.Prelude.{◌≡◌, ◌≤◌, ◌<◌, [], ◌∷◌, IsTrue, IfOk, IfErr};
+ghost use Rattle.std.specs.Prelude.{◌≡◌, ℕ, ◌≤◌, ◌<◌, [], ◌∷◌, IsTrue, IfOk, IfErr};
 ghost use Rattle.croner_summary.specs.Lengths.{length_of};
+ghost use Rattle.croner_summary.specs.Order.{IsInOrder};
 ghost use Rattle.croner_summary.specs.Private.Exact.{HasAll, IsExact, NamesAll, NamesNothing};
 ghost use Rattle.croner_summary.specs.Private.Spacing.{IsBestPiece, IsShortOf};
 
@@ -26,6 +27,7 @@ fn values_up_to(values: &[u16], greatest: u16) -> &[u16] {
 fn phrase_of_none(alloc: Global) -> Phrase
     ensures nothing { NamesNothing result }
     ensures short { length_of result.pieces.items ≡ 0 }
+    ensures ordered { (least greatest : ℕ) → IsInOrder least greatest result }
 {
     Phrase {
         pieces: Vec::new(alloc),
@@ -40,8 +42,10 @@ pub(crate) fn marked_phrase(
     bit: u8,
     field: &CronComponent,
 ) -> Result<Phrase, CronError>
-    requires { greatest < 65535 }
+    requires order { least ≤ greatest }
+    requires room { greatest < 65535 }
     ensures ok { IfOk result (IsExact least greatest bit field.now) }
+    ensures ordered { IfOk result (IsInOrder least greatest) }
     ensures err { IfErr result (λ e. e ≡ CronError.OutOfMemory) }
 {
     if field.count_set_values(bit) == 0 {
@@ -67,6 +71,7 @@ fn has_all(least: u16, greatest: u16, field: &CronComponent) -> bool
 fn phrase_of_all(alloc: Global) -> Result<Phrase, CronError>
     ensures ok { IfOk result NamesAll }
     ensures short { IfOk result (λ phrase. length_of phrase.pieces.items ≤ 1) }
+    ensures ordered { IfOk result (λ phrase. (least greatest : ℕ) → IsInOrder least greatest phrase) }
     ensures err { IfErr result (λ e. e ≡ CronError.OutOfMemory) }
 {
     let mut pieces = Vec::new(alloc);
@@ -81,8 +86,10 @@ fn found_phrase(
     greatest: u16,
     field: &CronComponent,
 ) -> Result<Phrase, CronError>
-    requires { greatest < 65534 }
+    requires order { least ≤ greatest }
+    requires room { greatest < 65534 }
     ensures ok { IfOk result (IsExact least greatest ALL_BIT field.now) }
+    ensures ordered { IfOk result (IsInOrder least greatest) }
     ensures err { IfErr result (λ e. e ≡ CronError.OutOfMemory) }
 {
     let values = field.values()?;
@@ -110,9 +117,11 @@ fn shorter_phrase(
     piece: Piece,
 ) -> Result<Phrase, CronError>
     requires exact { IsExact least greatest ALL_BIT field.now found }
+    requires ordered { IsInOrder least greatest found }
     requires best { IsBestPiece least greatest field.now piece }
     ensures ok { IfOk result (IsExact least greatest ALL_BIT field.now) }
     ensures short { IfOk result (IsShortOf least greatest field.now) }
+    ensures ordered { IfOk result (IsInOrder least greatest) }
     ensures err { IfErr result (λ e. e ≡ CronError.OutOfMemory) }
 {
     if have_at_most(&found.pieces, words_in(piece)) {
@@ -142,10 +151,12 @@ fn told_phrase(
     field: &CronComponent,
     piece: Piece,
 ) -> Result<Phrase, CronError>
+    requires order { least ≤ greatest }
     requires room { greatest < 65534 }
     requires best { IsBestPiece least greatest field.now piece }
     ensures ok { IfOk result (IsExact least greatest ALL_BIT field.now) }
     ensures short { IfOk result (IsShortOf least greatest field.now) }
+    ensures ordered { IfOk result (IsInOrder least greatest) }
     ensures err { IfErr result (λ e. e ≡ CronError.OutOfMemory) }
 {
     if !may_be_listed(piece) {
@@ -162,10 +173,11 @@ pub(crate) fn plain_phrase(
     greatest: u16,
     field: &CronComponent,
 ) -> Result<Phrase, CronError>
-    requires ordered { least ≤ greatest }
+    requires order { least ≤ greatest }
     requires room { greatest < 65534 }
     ensures ok { IfOk result (IsExact least greatest ALL_BIT field.now) }
     ensures short { IfOk result (IsShortOf least greatest field.now) }
+    ensures ordered { IfOk result (IsInOrder least greatest) }
     ensures err { IfErr result (λ e. e ≡ CronError.OutOfMemory) }
 {
     if has_all(least, greatest, field) {

@@ -12,6 +12,7 @@ mod exact;
 mod field;
 mod language;
 mod month_words;
+mod order;
 mod phrase;
 mod pieces;
 mod plain;

@@ -19,7 +19,8 @@ pub enum Piece {
 /// Which values of a field are named: those of its pieces. A phrase without a piece names nothing.
 #[derive(Debug)]
 pub struct Phrase {
-    /// The pieces, in the order in which they are written.
+    /// The pieces, in the order in which they are written. In a phrase of [`Summary::of`](crate::Summary::of) each lies in its field,
+    /// their values rise, with Sunday after Saturday unless a range begins with it, and none is named twice.
     pub pieces: Vec<Piece>,
 }
 

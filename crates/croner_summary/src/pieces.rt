@@ -1,4 +1,5 @@
-//! Finds pieces for some values. Whether they name exactly these is tested where they are used, so nothing relies on this file.
+//! Finds pieces for some values. Whether they name exactly these, in order, is tested where they are used, so nothing relies on this
+//! file.
 
 ghost use Rattle.std.specs.Prelude.{◌≡◌, ◌≤◌, ◌<◌, ◌+◌, length, IfErr, OnErr};
 
@@ -24,6 +25,9 @@ pub(crate) const SATURDAY: u16 = 6;
 
 /// Sunday.
 pub(crate) const SUNDAY: u16 = 0;
+
+/// Monday.
+pub(crate) const MONDAY: u16 = 1;
 
 /// The distance of the first two values; 0 where there is none.
 fn first_step(values: &[u16]) -> u16 {

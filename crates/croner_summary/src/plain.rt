@@ -1,10 +1,11 @@
-//! Phrases that name exactly the plain values of a field. Between one plain value and the next the pieces must name none.
+//! Phrases that name exactly the plain values of a field, each once. Between one plain value and the next the pieces must name none.
 
 ghost use Rattle.std.specs.Prelude.{◌≡◌, ◌≤◌, ◌<◌, ◌+◌, IsTrue, IfOk, IfErr};
-ghost use Rattle.croner_summary.specs.Says.{is_in_some};
-ghost use Rattle.croner_summary.specs.Private.Exact.{AgreeBelow, IsExact, IsNextPlain, NamesNone, NameNone, PassesOver, StepAgrees};
+ghost use Rattle.croner_summary.specs.Order.{IsInOrder};
+ghost use Rattle.croner_summary.specs.Private.Exact.{AgreeBelow, IsExact, IsNextPlain, NamesNone, NameNone, NameOnceBelow, PassesOver, StepAgrees};
 
-use crate::exact::{is_in_some, pieces_one_by_one};
+use crate::exact::{name_rightly, pieces_one_by_one};
+use crate::order::rise_within;
 use crate::phrase::{Phrase, Piece};
 use croner_base::component::{ALL_BIT, CronComponent};
 use croner_base::errors::CronError;
@@ -66,7 +67,7 @@ pub(crate) fn next_plain(field: &CronComponent, from: u16, greatest: u16) -> u16
     }
 }
 
-/// Whether the pieces name no value before the next plain one, and name that one.
+/// Whether the pieces name no value before the next plain one, and name that one once.
 fn step_agrees(least: u16, greatest: u16, pieces: &[Piece], from: u16, next: u16) -> bool
     requires low { least ≤ from }
     requires order { from ≤ next }
@@ -76,13 +77,14 @@ fn step_agrees(least: u16, greatest: u16, pieces: &[Piece], from: u16, next: u16
     if from < next && !name_none(least, greatest, pieces, from, next) {
         return false;
     }
-    next > greatest || is_in_some(least, greatest, pieces, next)
+    next > greatest || name_rightly(least, greatest, pieces, next, true)
 }
 
-/// Whether the pieces name exactly the plain values of a field.
+/// Whether the pieces name exactly the plain values of a field, each once.
 fn name_plain_exactly(least: u16, greatest: u16, pieces: &[Piece], field: &CronComponent) -> bool
     requires { greatest < 65534 }
-    ensures { IsTrue result → AgreeBelow least greatest pieces.now ALL_BIT field.now (greatest + 1) }
+    ensures exact { IsTrue result → AgreeBelow least greatest pieces.now ALL_BIT field.now (greatest + 1) }
+    ensures once { IsTrue result → NameOnceBelow least greatest pieces.now (greatest + 1) }
 {
     let mut from = least;
     while from <= greatest {
@@ -95,7 +97,8 @@ fn name_plain_exactly(least: u16, greatest: u16, pieces: &[Piece], field: &CronC
     true
 }
 
-/// The phrase of the plain values of a field: the words that were found, if they are exact, otherwise each value by itself.
+/// The phrase of the plain values of a field: the words that were found, if they are exact and in order, otherwise each value by
+/// itself.
 pub(crate) fn exact_plain_phrase(
     alloc: Global,
     least: u16,
@@ -103,11 +106,13 @@ pub(crate) fn exact_plain_phrase(
     field: &CronComponent,
     found: Vec<Piece>,
 ) -> Result<Phrase, CronError>
-    requires { greatest < 65534 }
+    requires order { least ≤ greatest }
+    requires room { greatest < 65534 }
     ensures ok { IfOk result (IsExact least greatest ALL_BIT field.now) }
+    ensures ordered { IfOk result (IsInOrder least greatest) }
     ensures err { IfErr result (λ e. e ≡ CronError.OutOfMemory) }
 {
-    if name_plain_exactly(least, greatest, &found, field) {
+    if rise_within(least, greatest, &found) && name_plain_exactly(least, greatest, &found, field) {
         return Ok(Phrase { pieces: found });
     }
     let pieces = pieces_one_by_one(alloc, least, greatest, ALL_BIT, field)?;

@@ -4,6 +4,7 @@ ghost use Rattle.std.specs.Prelude.{◌≡◌, IfOk, IfErr};
 ghost use Rattle.croner_pattern.specs.Meaning.{meaning_of};
 ghost use Rattle.croner.specs.Views.{job_of};
 ghost use Rattle.croner_summary.specs.Lengths.{IsShortlySaid};
+ghost use Rattle.croner_summary.specs.Order.{IsWrittenInOrder};
 ghost use Rattle.croner_summary.specs.Summaries.{SaysTheSchedule};
 
 use crate::day_phrases::days_of;
@@ -52,7 +53,7 @@ impl Drop for Summary {
 impl Summary {
     /// The summary of a job. It names exactly the dates and times that the job's pattern schedules. When the job runs where the
     /// clock changes depends on its [`JobType`](croner::JobType). No phrase has more words than a single piece that names the same
-    /// values.
+    /// values. The pieces of a phrase lie in its field and rise, with Sunday after Saturday, and name no value twice.
     ///
     /// The only error is `OutOfMemory`.
     ///
@@ -63,6 +64,7 @@ impl Summary {
     pub fn of(alloc: Global, job: &Cron) -> Result<Summary, CronError>
         ensures ok { IfOk result (λ s. SaysTheSchedule s (job_of job.now)) }
         ensures short { IfOk result IsShortlySaid }
+        ensures ordered { IfOk result IsWrittenInOrder }
         ensures err { IfErr result (λ e. e ≡ CronError.OutOfMemory) }
     {
         Summary::of_pattern(alloc, &job.pattern)
@@ -74,6 +76,7 @@ impl Summary {
     pub fn of_pattern(alloc: Global, pattern: &CronPattern) -> Result<Summary, CronError>
         ensures ok { IfOk result (λ s. SaysTheSchedule s (meaning_of pattern.now)) }
         ensures short { IfOk result IsShortlySaid }
+        ensures ordered { IfOk result IsWrittenInOrder }
         ensures err { IfErr result (λ e. e ≡ CronError.OutOfMemory) }
     {
         let seconds = plain_phrase(alloc, 0, LAST_SECOND as u16, &pattern.seconds)?;

@@ -2,18 +2,18 @@
 
 ghost use Rattle.std.specs.Prelude.{◌≡◌, ◌<◌, true, false, Some, None, MatchOption, MatchResult};
 ghost use Rattle.croner_summary.specs.DayWords.{is_some};
-ghost use Rattle.croner_summary.specs.Texts.{are_all_told, are_days_told, cut_style, date_text, is_month_told, is_short, is_told, is_week_told, is_whole, term_of_no_day, term_of_nothing, some_text, styled_text, text_of, whole_style};
+ghost use Rattle.croner_summary.specs.Texts.{are_all_told, are_days_told, cut_style, date_text, is_month_told, is_season_first, is_short, is_told, is_week_told, is_whole, season_text, term_of_no_day, term_of_nothing, some_text, styled_text, text_of, whole_style};
 ghost use Rattle.croner_summary.specs.Private.Appended.{Appends};
 ghost use Rattle.croner_words.specs.Writes.{Writes};
 
-use crate::day_words::{is_some, names_month_day, names_weekday, write_days};
+use crate::day_words::{has_parts, is_some, names_month_day, names_weekday, write_days};
 use crate::days::{Days, MonthDays, Weekdays};
 use crate::language::{Style, SummaryLanguage, Term};
 use crate::month_words::{write_months, write_years};
 use crate::phrase::Phrase;
 use crate::summary::Summary;
-use crate::time_words::write_time;
-use crate::words::write_term;
+use crate::time_words::{is_every, write_time};
+use crate::words::{only_piece, write_term, write_text};
 use croner_base::errors::CronError;
 use std::alloc::Global;
 use std::fmt;
@@ -78,14 +78,38 @@ fn term_of_nothing(summary: &Summary) -> Option<Term>
     term_of_no_day(&summary.days)
 }
 
+/// Writes the months and the years.
+#[tactic(auto, unfolding(crate::specs::Texts::season_text))]
+fn write_season(text: &mut String, style: Style, summary: &Summary) -> Result<(), CronError>
+    ensures { Appends (season_text style summary.now) text.old text.new result }
+{
+    write_months(text, style, &summary.months.pieces)?;
+    write_years(text, style, &summary.years.pieces)
+}
+
+/// Whether the months and the years come before the days: these have several parts, of which the months and years would seem to
+/// limit only the last.
+#[tactic(auto, unfolding(crate::specs::Texts::is_season_first))]
+fn is_season_first(summary: &Summary) -> bool
+    ensures { result ≡ is_season_first summary.now }
+{
+    has_parts(&summary.days)
+        && !(is_every(only_piece(&summary.months.pieces))
+            && is_every(only_piece(&summary.years.pieces)))
+}
+
 /// Writes the days, the months and the years.
 #[tactic(auto, unfolding(crate::specs::Texts::date_text))]
 fn write_date(text: &mut String, style: Style, summary: &Summary) -> Result<(), CronError>
     ensures { Appends (date_text style summary.now) text.old text.new result }
 {
+    if is_season_first(summary) {
+        write_season(text, style, summary)?;
+        write_text(text, ":")?;
+        return write_days(text, style, &summary.days);
+    }
     write_days(text, style, &summary.days)?;
-    write_months(text, style, &summary.months.pieces)?;
-    write_years(text, style, &summary.years.pieces)
+    write_season(text, style, summary)
 }
 
 /// Writes the times and the dates.
@@ -201,7 +225,8 @@ fn are_all_told(summary: &Summary) -> bool
 }
 
 impl Summary {
-    /// The summary in words, as a line without a full stop. The phrases determine it exactly.
+    /// The summary in words, as a line without a full stop. The phrases determine it exactly. Days in several parts come after the
+    /// months and years that limit them.
     ///
     /// A text of more than 400 bytes is cut: of a list of more than three pieces it has the first three, and how many more there
     /// are. A step beside other values comes before these. [`is_whole`](Self::is_whole) says whether anything is left out.

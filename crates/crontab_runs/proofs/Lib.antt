@@ -18,3 +18,4 @@ pub mod SearchLoops
 pub mod NoneDue
 pub mod Recurs
 pub mod StartLists
+pub mod WindowStarts

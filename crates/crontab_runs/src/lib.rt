@@ -22,7 +22,9 @@ mod recurring;
 mod search;
 mod stretch;
 mod stretch_search;
+mod zones;
 
 pub use due::due_after;
 pub use job::{CrontabJob, Start};
 pub use listing::{StartIterator, StartsEnd, last_starts_until, next_starts_until};
+pub use zones::starts_of_a_window;

@@ -147,6 +147,7 @@ impl<'s, T: CronDateTime, S: Schedule> Search<'s, T, S> {
 /// The nearest run from the start in the direction, the start included where the search is inclusive. The error is
 /// `TimeSearchLimitExceeded` where no run is found in the searched years; or the backend's own, unchanged, where it doesn't
 /// hold a moment that is asked for, or lacks memory.
+#[inline(always)]
 pub(crate) fn find<T: CronDateTime, S: Schedule>(
     alloc: Global,
     schedule: &S,
@@ -169,6 +170,7 @@ pub(crate) fn find<T: CronDateTime, S: Schedule>(
 }
 
 /// The same for a caller that has read the start: `shown` is what it reads.
+#[inline(always)]
 pub(crate) fn find_with_reading<T: CronDateTime, S: Schedule>(
     alloc: Global,
     schedule: &S,

@@ -16,6 +16,7 @@ impl Schedule for CronPattern {
 
     ghost timetable = { λ p. timetable_of (meaning_of p) };
 
+    #[inline(always)]
     fn next_scheduled(&self, from: CivilDateTime, direction: Direction) -> Option<CivilDateTime> {
         cursor::next_scheduled(self, from, direction)
     }
@@ -24,6 +25,7 @@ impl Schedule for CronPattern {
         cursor::matches_date(self, civil.date())
     }
 
+    #[inline(always)]
     fn is_fixed_time(&self) -> bool {
         CronPattern::is_fixed_time(self)
     }

@@ -194,6 +194,7 @@ impl<'s, T: CronDateTime, S: Schedule> Search<'s, T, S> {
 
     /// The nearest run that a walk along the wall clock from the start meets, over one half of each repeated range; `None` where it
     /// meets none in the years that are searched. Where nothing is scheduled ahead, the backend isn't asked.
+    #[inline(always)]
     pub(super) fn walk(&self) -> Result<Option<T>, CronError>
         requires shaped { S.shaped self.now.schedule.now }
         requires shown { wall_second self.now.shown ≡ reading (start_of T.moment self.now) }

@@ -13,12 +13,13 @@ use Rattle.croner_base.specs.Private.words.Counts.{ShowsMarked, ShowsFrom, is_fr
 use Rattle.croner_base.specs.Field.{room, has_any}
 use Rattle.croner_base.specs.Private.words.Marked.{Marked, is_set}
 use Rattle.croner_base.specs.Private.words.Masks.{MasksFrom, MasksTo}
-use Rattle.croner_base.specs.Private.words.Rows.{rows_below, width}
+use Rattle.croner_base.specs.Private.words.Rows.{rows_below, width, mark_at, sums_of, marks_in}
 use Rattle.croner_base.proofs.fields.CountedValues.{count_from, any_counted}
 use Rattle.croner_base.proofs.fields.ModifierSets.{has_bit}
 use Rattle.croner_base.proofs.words.ModifiersInTurn.{low_none, low_more}
 use Rattle.croner_base.proofs.words.WordSearch.{masked_off}
-use Rattle.croner_base.proofs.words.RowPlaces.{count_low, rows_below-suc, rows_below-zero, past_max, value_within}
+use Rattle.croner_base.proofs.words.Sums.{word_one, sums_past}
+use Rattle.croner_base.proofs.words.RowPlaces.{has_row, rows_all, count_low, rows_below-suc, rows_below-zero, past_max, value_within}
 
 -- ---- one word: the first k modifiers have been looked at
 
@@ -176,3 +177,23 @@ pub any_marked : (f : Marked) (bits : ℕ) → length f.marks ≡ room f.max →
 any_marked f bits long =
     let all : 0 + (room f.max - 0) ≡ length f.marks = omega (arith, long) in
     ap (λ n. not (eqb n 0)) (sym (count_from (λ sum. has_any sum bits) f.marks (room f.max - 0) 0 all)) ∙ any_counted (λ sum. has_any sum bits) f.marks
+
+-- ---- rows of one word
+
+-- the word of a modifier, where all eight have one
+pub eight_bit : (words : List ℕ) (max k b : ℕ) → width max ≡ 1 → k < 8 → b < 64 → bit_at (get_or words k 0) b ≡ mark_at words (width max) 255 k (0 * 64 + b)
+eight_bit words max k b one low h =
+    let place : k ≡ rows_below 255 k * width max + 0 = omega (arith, ap (λ n. rows_below 255 k * n) one, rows_all k (omega (arith, low))) in
+    word_one words (width max) 255 k 0 b k (shr_and_one 255 k ∙ has_row k low) h place
+
+-- the values of a word without a bit past the maximum
+pub eight_shown : (words : List ℕ) (max bits word : ℕ) → ShowsMarked (marks_in words max 255) bits 0 word → ((b : ℕ) → b < 64 → room max ≤ b → bit_at word b ≡ 0)
+    → (v : ℕ) → v < 64 → eqb (bit_at word v) 1 ≡ is_set bits (marks_in words max 255) v
+eight_shown words max bits word shows none v h = elim (cases_lt v (room max)) [
+  | inl here ↦
+      let same : 0 * 64 + v ≡ v = omega arith in
+      subst (λ u. eqb (bit_at word v) 1 ≡ is_set bits (marks_in words max 255) u) same (shows v h (omega (arith, here)))
+  | inr past ↦
+      let unmarked : bit_and (get_or (sums_of words max 255) v 0) bits ≡ 0 = omega (arith, and_le_l (get_or (sums_of words max 255) v 0) bits, sums_past words max 255 v past) in
+      ap (λ n. eqb n 1) (none v h past) ∙ sym (ap (λ n. not (eqb n 0)) unmarked)
+]

@@ -31,22 +31,22 @@ bit_supported s bits k all one = omega (arith, shr_and_one bits k, bit_at_and s 
 -- ---- turned one after another
 
 -- a modifier that is not asked for is left as it is
-pub turns_skip : (to : ℕ) (old new : Marked) (bits first last k : ℕ) → bit_and (bits / 2 ^ k) 1 ≢ 1 → Turns to old new (bits % 2 ^ k) first last
-    → Turns to old new (bits % 2 ^ (k + 1)) first last
-turns_skip to old new bits first last k off done = subst (λ n. Turns to old new n first last) (sym (low_none bits k off)) done
+pub turns_skip : (to : ℕ) (old new : Marked) (bits k : ℕ) (asked : ℕ → Type 0) → bit_and (bits / 2 ^ k) 1 ≢ 1 → Turns to old new (bits % 2 ^ k) asked
+    → Turns to old new (bits % 2 ^ (k + 1)) asked
+turns_skip to old new bits k asked off done = subst (λ n. Turns to old new n asked) (sym (low_none bits k off)) done
 
 -- and one that is asked for is turned
-pub turns_more : (to : ℕ) (old mid new : Marked) (bits first last k : ℕ) → bit_and (bits / 2 ^ k) 1 ≡ 1 → Turns to old mid (bits % 2 ^ k) first last
-    → Turns to mid new (2 ^ k) first last → Turns to old new (bits % 2 ^ (k + 1)) first last
-turns_more to old mid new bits first last k one done more = record {
+pub turns_more : (to : ℕ) (old mid new : Marked) (bits k : ℕ) (asked : ℕ → Type 0) → bit_and (bits / 2 ^ k) 1 ≡ 1 → Turns to old mid (bits % 2 ^ k) asked
+    → Turns to mid new (2 ^ k) asked → Turns to old new (bits % 2 ^ (k + 1)) asked
+turns_more to old mid new bits k asked one done more = record {
   max = more.max ∙ done.max;
   supported = more.supported ∙ done.supported;
   length = more.length ∙ done.length;
-  inside = λ v j above below asked. elim (cases_eq (bit_at (2 ^ k) j) 1) [
-    | inl now ↦ more.inside v j above below now
-    | inr other ↦ more.kept v j (λ _ _. other) ∙ done.inside v j above below (omega (arith, low_more bits k j one, bit_at-lt (2 ^ k) j, bit_at-lt (bits % 2 ^ k) j))
+  inside = λ v j is turned. elim (cases_eq (bit_at (2 ^ k) j) 1) [
+    | inl now ↦ more.inside v j is now
+    | inr other ↦ more.kept v j (λ _. other) ∙ done.inside v j is (omega (arith, turned, other, low_more bits k j one, bit_at-lt (2 ^ k) j, bit_at-lt (bits % 2 ^ k) j))
   ];
   kept = λ v j outside.
-      more.kept v j (λ above below now. outside above below (omega (arith, low_more bits k j one, bit_at-lt (bits % 2 ^ k) j)))
-      ∙ done.kept v j (λ above below old. outside above below (omega (arith, low_more bits k j one, bit_at-lt (2 ^ k) j)));
+      more.kept v j (λ is now. outside is (omega (arith, now, low_more bits k j one, bit_at-lt (bits % 2 ^ k) j)))
+      ∙ done.kept v j (λ is old. outside is (omega (arith, old, low_more bits k j one, bit_at-lt (2 ^ k) j)));
 }

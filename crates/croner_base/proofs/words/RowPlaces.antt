@@ -106,3 +106,8 @@ has_row k h = bit_at_ones 8 k h
 pub one_each : (wide : ℕ) → wide ≡ 1 → 8 ≡ rows_below 255 8 * wide
 unfolding rows_below
 one_each wide e = let all : rows_below 255 8 ≡ 8 = refl in omega (arith, ap (λ n. n * wide) all)
+
+-- in place as many rows stand below a modifier as modifiers
+pub rows_all : (k : ℕ) → k ≤ 8 → rows_below 255 k ≡ k
+rows_all zero h = rows_below-zero 255
+rows_all (suc k) h = omega (arith, rows_below-suc 255 k, rows_all k (omega (arith, h)), has_row k (omega (arith, h)))

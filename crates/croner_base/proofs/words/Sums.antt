@@ -8,6 +8,7 @@ use Rattle.std.proofs.lemmas.Nat.{mul-le}
 use Rattle.std.proofs.lemmas.Nat.Bits.{shr_and_one, bit_at-lt, bit_at_lowest, bit_at-zero, bit_at_cat_low, bit_at_cat_high, same_from_bits_below}
 use Rattle.std.proofs.Math.Pow.{pow_mono}
 use native.Mathlib.Nat.{pow-suc}
+use Rattle.croner_base.specs.Private.words.Kept.{NonePast}
 use Rattle.croner_base.specs.Private.words.Marked.{Marked}
 use Rattle.croner_base.specs.Field.{room}
 use Rattle.croner_base.specs.Private.words.Rows.{width, rows_below, mark_at, number_of, sum_below, sums_of, marks_in}
@@ -147,6 +148,10 @@ sums_none n max s = ext_get_or 0 _ _ (sums_long (blank n) max s ∙ sym (length-
       | inr off ↦ mark_none (blank n) (width max) s k v off
       | inl one ↦ sym (mark_one (blank n) (width max) s k v _ one refl) ∙ ap (λ w. bit_at w (v % 64)) (none_at n _) ∙ bit_at-zero (v % 64)
     ]
+
+-- and none has a bit past the maximum
+pub none_past_blank : (n max : ℕ) → NonePast (blank n) max
+none_past_blank n max p b h past = ap (λ w. bit_at w b) (none_at n p) ∙ bit_at-zero b
 
 -- marks of these sums
 abbrev pub with_sums : ℕ → ℕ → List ℕ → Marked

@@ -3,8 +3,8 @@
 ghost use Rattle.std.specs.Prelude.{◌≡◌, ℕ, false, ◌+◌, ◌*◌, ◌^◌, ◌<◌, ◌≤◌, ◌==◌, length, bit_and, nat_lt, slice_index, IfOk, IsOk, MatchOption};
 ghost use Rattle.std.specs.Int.{bit_at};
 ghost use Rattle.croner_base.specs.Field.{room};
-ghost use Rattle.croner_base.specs.Private.words.Kept.{words_of, rows_of};
-ghost use Rattle.croner_base.specs.Private.words.Marked.{Marked, is_set, set_at, unset_at, nothing_set, GainsRange, Turns};
+ghost use Rattle.croner_base.specs.Private.words.Kept.{words_of, rows_of, NonePast};
+ghost use Rattle.croner_base.specs.Private.words.Marked.{Marked, is_set, set_at, unset_at, nothing_set, SteppedTo, Gains, Turns};
 ghost use Rattle.croner_base.specs.Private.words.Next.{NoneFrom, IsLeast, NoneTo, IsGreatest};
 ghost use Rattle.croner_base.specs.Private.words.Rows.{in_row, rows_below, sums_of, width};
 ghost use Rattle.croner_base.specs.Private.words.Word.{word_bits};
@@ -19,6 +19,7 @@ mod count;
 mod hash;
 mod row;
 mod rows;
+mod steps;
 mod words;
 
 /// The modifiers with which each value from 0 to the maximum is marked. A maximum of 0 leaves no value.
@@ -39,7 +40,7 @@ impl Model for Marks {
 
     ghost view = { λ c. record { max = c.max; supported = c.supported; marks = sums_of (words_of c.is_in_place c.in_place c.on_heap.items) c.max (rows_of c.is_in_place c.supported) } };
 
-    ghost invariant = { λ c. (length (words_of c.is_in_place c.in_place c.on_heap.items) ≡ rows_below (rows_of c.is_in_place c.supported) 8 * width c.max) × (c.is_in_place ≡ (width c.max == 1)) };
+    ghost invariant = { λ c. (length (words_of c.is_in_place c.in_place c.on_heap.items) ≡ rows_below (rows_of c.is_in_place c.supported) 8 * width c.max) × (c.is_in_place ≡ (width c.max == 1)) × NonePast c.in_place c.max };
 }
 
 // By hand, so that a function that drops marks calls this one.
@@ -57,7 +58,7 @@ impl Drop for Marks {
 
 impl Marks {
     /// Nothing marked, with room for all marks.
-    #[tactic(auto, using(crate::proofs::words::Sums::sums_none, crate::proofs::words::RowPlaces::one_each))]
+    #[tactic(auto, using(crate::proofs::words::Sums::sums_none, crate::proofs::words::Sums::none_past_blank, crate::proofs::words::RowPlaces::one_each))]
     pub fn new(alloc: Global, max: u16, supported: u8) -> Result<Self, AllocError>
         ensures { IfOk result (λ m. m ≡ nothing_set max supported) }
     {
@@ -82,6 +83,7 @@ impl Marks {
     }
 
     /// No value at all, and no modifier supported. Takes no memory.
+    #[tactic(auto, using(crate::proofs::words::Sums::none_past_blank))]
     pub fn none(alloc: Global) -> Self
         ensures { result ≡ nothing_set 0 0 }
     {
@@ -181,35 +183,37 @@ impl Marks {
         }
     }
 
-    /// Marks the values from `first` to `last` with each modifier of `bits`.
+    /// Marks `first`, `first + step` and so on up to `last` with each modifier of `bits`.
     #[tactic(auto, using(crate::proofs::words::ModifiersInTurn::bit_supported))]
-    pub fn set_range(&mut self, first: u16, last: u16, bits: u8)
+    pub fn set_steps(&mut self, first: u16, last: u16, step: u16, bits: u8)
         requires order { first ≤ last }
         requires within { last < room self.old.max }
+        requires step { 0 < step }
         requires are_supported { bit_and self.old.supported bits ≡ bits }
-        ensures { GainsRange self.old self.new bits first last }
+        ensures { Gains self.old self.new bits (SteppedTo first last step) }
     {
         for k in 0..8 {
             if bits >> k & 1 == 1 {
-                self.set_between(first, last, k);
+                self.set_steps_of(first, last, step, k);
             }
         }
     }
 
-    // Marks the values from `first` to `last` with modifier `k`, whose bit is 2 to the power `k`.
+    // Marks these values with modifier `k`, whose bit is 2 to the power `k`.
     #[tactic(auto, using(crate::proofs::words::RowPlaces::has_row))]
-    fn set_between(&mut self, first: u16, last: u16, k: u8)
+    fn set_steps_of(&mut self, first: u16, last: u16, step: u16, k: u8)
         requires order { first ≤ last }
         requires within { last < room self.old.max }
+        requires step { 0 < step }
         requires modifier { k < 8 }
         requires is_supported { bit_at self.old.supported k ≡ 1 }
-        ensures { Turns 1 self.old self.new (2 ^ k) first last }
+        ensures { Turns 1 self.old self.new (2 ^ k) (SteppedTo first last step) }
     {
         let (max, supported) = (self.max, self.supported);
         if self.is_in_place {
-            rows::mark_between(&mut self.in_place, max, ALL_ROWS, k, first, last);
+            rows::mark_steps(&mut self.in_place, max, ALL_ROWS, k, first, last, step);
         } else {
-            rows::mark_between(&mut self.on_heap, max, supported, k, first, last);
+            rows::mark_steps(&mut self.on_heap, max, supported, k, first, last, step);
         }
     }
 

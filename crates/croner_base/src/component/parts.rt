@@ -326,7 +326,8 @@ impl CronComponent {
         ensures { Reads (all_marked self.old.shape bit (values_between first last)) self.old self.new result }
     {
         let first = self.value_at(first, bit)?;
-        self.marks.set_range(first, last - self.input_offset, bit);
+        self.marks
+            .set_steps(first, last - self.input_offset, 1, bit);
         Ok(())
     }
 
@@ -340,16 +341,16 @@ impl CronComponent {
     ) -> Result<(), CronError>
         requires step { 0 < step }
         requires order { start ≤ end }
+        requires within { end ≤ self.old.shape.max + self.old.shape.offset }
         ensures { Reads (stepped_marks self.old.shape bit start end step) self.old self.new result }
     {
-        let mut pos = start;
-        while pos <= end {
-            self.set_bit(pos, bit)?;
-            pos = match pos.checked_add(step) {
-                Some(next) => next,
-                None => return Err(self.step_too_long(step, part)),
-            };
+        let first = self.value_at(start, bit)?;
+        self.marks
+            .set_steps(first, end - self.input_offset, step, bit);
+        let last = end - (end - start) % step;
+        match last.checked_add(step) {
+            Some(_) => Ok(()),
+            None => Err(self.step_too_long(step, part)),
         }
-        Ok(())
     }
 }

@@ -16,6 +16,7 @@ pub(crate) const FIRST_SEARCHED_YEAR: u32 = YEAR_LOWER_LIMIT as u32;
 pub(crate) const LAST_SEARCHED_YEAR: u32 = YEAR_UPPER_LIMIT as u32;
 
 // Whether a search can step on from the year of a date.
+#[inline(always)]
 pub(crate) fn has_room(date: CivilDate, direction: Direction) -> bool
     ensures { result ≡ has_room direction date.year }
 {
@@ -26,6 +27,7 @@ pub(crate) fn has_room(date: CivilDate, direction: Direction) -> bool
 }
 
 // Whether the date has the year, the month and the day.
+#[inline(always)]
 fn is_ymd(date: CivilDate, year: i32, month: u32, day: u32) -> bool
     ensures { IsTrue result ↔ HasYmd year month day date }
 {
@@ -33,6 +35,7 @@ fn is_ymd(date: CivilDate, year: i32, month: u32, day: u32) -> bool
 }
 
 // Whether a search reaches a date. In the year from which it can't step on, it reaches the first day only.
+#[inline(always)]
 pub(crate) fn is_reached(date: CivilDate, direction: Direction) -> bool
     ensures { IsTrue result ↔ Reaches direction (day_of_date date) (edge_day direction) }
 {
@@ -47,6 +50,7 @@ pub(crate) fn is_reached(date: CivilDate, direction: Direction) -> bool
 
 // The weekday of the first of a month of a year that a pattern can name, from 0 for Sunday.
 #[tactic(auto, using(crate::proofs::civil::Weekdays::weekday_place, crate::proofs::civil::Weekdays::first_bound))]
+#[inline(always)]
 pub(crate) fn first_weekday(year: u32, month: u32) -> u32
     requires year_in { IsInRange FIRST_SEARCHED_YEAR LAST_SEARCHED_YEAR year }
     requires month_in { IsInRange 1 LAST_MONTH month }
@@ -59,6 +63,7 @@ pub(crate) fn first_weekday(year: u32, month: u32) -> u32
 }
 
 // The first year, among those that a pattern can name, after the year of a date.
+#[inline(always)]
 pub(crate) fn year_beyond(date: CivilDate, direction: Direction) -> u32
     requires { has_room direction date.year ≡ true }
     ensures { IsNearest pos (IsInRange FIRST_SEARCHED_YEAR LAST_SEARCHED_YEAR) direction (one_on direction date.year) result }

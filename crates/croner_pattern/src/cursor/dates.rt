@@ -33,6 +33,7 @@ fn named_year<P: PatternWords>(pattern: &P, date: CivilDate) -> Option<u32>
 }
 
 // The days of a month that the day fields name.
+#[inline(always)]
 fn named_days<P: PatternWords>(pattern: &P, year: u32, month: u32) -> u32
     requires shapes { has_field_shapes (P.meaning pattern.now) ≡ true }
     requires year_in { IsInRange FIRST_SEARCHED_YEAR LAST_SEARCHED_YEAR year }
@@ -62,6 +63,7 @@ pub(crate) fn month_days<P: PatternWords>(pattern: &P, date: CivilDate) -> u32
 }
 
 // The first date that matches in a named month of a named year.
+#[inline(always)]
 fn in_month<P: PatternWords>(
     pattern: &P,
     year: u32,
@@ -80,6 +82,7 @@ fn in_month<P: PatternWords>(
 
 // The first date that matches in the months of a named year from a month on.
 #[tactic(auto, using(crate::proofs::civil::FieldBits::holds_months))]
+#[inline(always)]
 fn in_months<P: PatternWords>(
     pattern: &P,
     year: u32,
@@ -103,6 +106,7 @@ fn in_months<P: PatternWords>(
 }
 
 // The month with which a year begins in the direction.
+#[inline(always)]
 fn first_month(direction: Direction) -> u32
     ensures way { IsOnTheWay direction 1 LAST_MONTH result }
     ensures first { (month : ℕ) → IsInRange 1 12 month → Reaches direction (pos result) (pos month) }
@@ -115,6 +119,7 @@ fn first_month(direction: Direction) -> u32
 
 // The first date that matches in a named year.
 #[tactic(auto, using(crate::proofs::civil::DateSearch::whole_year))]
+#[inline(always)]
 fn in_year<P: PatternWords>(pattern: &P, year: u32, direction: Direction) -> Option<CivilDate>
     requires shapes { has_field_shapes (P.meaning pattern.now) ≡ true }
     requires year_in { IsInRange FIRST_SEARCHED_YEAR LAST_SEARCHED_YEAR year }
@@ -170,6 +175,7 @@ fn in_later_years<P: PatternWords>(
 
 // The first date that matches in the years from a year on. The first named year is searched itself, those after it by
 // their kinds.
+#[inline(always)]
 fn in_years<P: PatternWords>(pattern: &P, year: u32, direction: Direction) -> Option<CivilDate>
     requires shapes { has_field_shapes (P.meaning pattern.now) ≡ true }
     requires year_in { IsOnTheWay direction FIRST_SEARCHED_YEAR LAST_SEARCHED_YEAR year }
@@ -183,6 +189,7 @@ fn in_years<P: PatternWords>(pattern: &P, year: u32, direction: Direction) -> Op
 }
 
 // The first date that matches in the year of a date, in the months after its own.
+#[inline(always)]
 fn in_rest_of_year<P: PatternWords>(
     pattern: &P,
     date: CivilDate,
@@ -202,6 +209,7 @@ fn in_rest_of_year<P: PatternWords>(
 }
 
 // The first date that matches after a date. `days` are those that match in the month of the date.
+#[inline(always)]
 fn next_date<P: PatternWords>(
     pattern: &P,
     date: CivilDate,
@@ -224,6 +232,7 @@ fn next_date<P: PatternWords>(
 
 // The first date that matches after a date, up to the last day that a search reaches.
 #[tactic(auto, using(crate::proofs::civil::Foremost::up_to, crate::proofs::civil::Foremost::beyond))]
+#[inline(always)]
 pub(crate) fn date_after<P: PatternWords>(
     pattern: &P,
     date: CivilDate,

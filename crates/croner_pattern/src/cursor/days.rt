@@ -7,6 +7,7 @@ use crate::cursor::values::{first_bit, nearest_bit, neighbour};
 use croner_base::time::{CivilDate, Direction};
 
 // Whether the day of a date is one of the days.
+#[inline(always)]
 pub(crate) fn has_day(days: u32, date: CivilDate) -> bool
     ensures { IsTrue result ↔ HasDay days date.day }
 {
@@ -24,6 +25,7 @@ fn places(days: u32) -> u64
 
 // The first of the days in the direction.
 #[tactic(auto, using(crate::proofs::civil::Foremost::alike))]
+#[inline(always)]
 pub(crate) fn first_day(days: u32, direction: Direction) -> Option<u32>
     ensures { FindsForemost pos (HasDay days) direction result }
 {
@@ -32,6 +34,7 @@ pub(crate) fn first_day(days: u32, direction: Direction) -> Option<u32>
 
 // The first of the days that come after the day of a date in the direction.
 #[tactic(auto, using(crate::proofs::civil::Foremost::same_nearest))]
+#[inline(always)]
 pub(crate) fn day_after(days: u32, date: CivilDate, direction: Direction) -> Option<u32>
     ensures { FindsNearest pos (HasDay days) direction (one_on direction (pos date.day)) result }
 {

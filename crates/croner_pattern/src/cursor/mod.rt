@@ -25,6 +25,7 @@ use croner_base::time::{CivilDate, CivilDateTime, CivilTime, Direction};
 /// From a year before 5000 (forward) or after 1 (backward) the search goes no further than the first day of year 5000, or
 /// the last day of year 1. From any other year it stays on the day of `from`: there it doesn't leave an hour that the
 /// pattern names, nor in the hour of `from` a minute that it names. `None` where nothing is scheduled up to there.
+#[inline(always)]
 pub fn next_scheduled<P: PatternWords>(
     pattern: &P,
     from: CivilDateTime,

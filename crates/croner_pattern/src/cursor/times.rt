@@ -11,6 +11,7 @@ use croner_base::time::{CivilTime, Direction};
 
 // The first time of day that matches, in the direction. None where a field names nothing.
 #[tactic(auto, using(crate::proofs::civil::FieldBits::holds_hours, crate::proofs::civil::FieldBits::holds_minutes, crate::proofs::civil::FieldBits::holds_seconds))]
+#[inline(always)]
 pub(crate) fn first_time<P: PatternWords>(pattern: &P, direction: Direction) -> Option<CivilTime>
     requires { has_field_shapes (P.meaning pattern.now) ≡ true }
     ensures { FindsForemost place_in_day (IsMatchingTime (P.meaning pattern.now)) direction result }
@@ -23,6 +24,7 @@ pub(crate) fn first_time<P: PatternWords>(pattern: &P, direction: Direction) -> 
 
 // The first time in a minute, from a second on.
 #[tactic(auto, using(crate::proofs::civil::FieldBits::holds_hours, crate::proofs::civil::FieldBits::holds_minutes, crate::proofs::civil::FieldBits::holds_seconds))]
+#[inline(always)]
 fn in_minute<P: PatternWords>(
     pattern: &P,
     hour: u32,
@@ -43,6 +45,7 @@ fn in_minute<P: PatternWords>(
 
 // The first time in the minutes of an hour after one.
 #[tactic(auto, using(crate::proofs::civil::FieldBits::holds_hours, crate::proofs::civil::FieldBits::holds_minutes, crate::proofs::civil::FieldBits::holds_seconds))]
+#[inline(always)]
 fn in_later_minutes<P: PatternWords>(
     pattern: &P,
     hour: u32,
@@ -63,6 +66,7 @@ fn in_later_minutes<P: PatternWords>(
 
 // The first time in the hours after one.
 #[tactic(auto, using(crate::proofs::civil::FieldBits::holds_hours, crate::proofs::civil::FieldBits::holds_minutes, crate::proofs::civil::FieldBits::holds_seconds))]
+#[inline(always)]
 fn in_later_hours<P: PatternWords>(
     pattern: &P,
     hour: u32,
@@ -79,6 +83,7 @@ fn in_later_hours<P: PatternWords>(
 }
 
 // The nearest time of the day that matches, from a time on, itself included.
+#[inline(always)]
 pub(crate) fn in_day<P: PatternWords>(
     pattern: &P,
     from: CivilTime,
@@ -99,6 +104,7 @@ pub(crate) fn in_day<P: PatternWords>(
 
 // Whether going from one time to another on the same day leaves neither a plain hour nor a plain minute.
 #[tactic(auto, using(crate::proofs::civil::FieldBits::holds_hours, crate::proofs::civil::FieldBits::holds_minutes))]
+#[inline(always)]
 pub(crate) fn is_move<P: PatternWords>(pattern: &P, from: CivilTime, time: CivilTime) -> bool
     requires { has_field_shapes (P.meaning pattern.now) ≡ true }
     ensures { IsTrue result ↔ IsMove (P.meaning pattern.now) from time }

@@ -22,6 +22,7 @@ pub(crate) fn is_plain<P: PatternWords>(pattern: &P, unit: Unit, value: u32) -> 
 }
 
 // The next number in the direction.
+#[inline(always)]
 pub(crate) fn neighbour(value: u32, direction: Direction) -> Option<u32>
     requires { value < u32.MAX }
     ensures { MatchOption result
@@ -97,6 +98,7 @@ pub(crate) fn nearest_value<P: PatternWords>(
 }
 
 // The nearest plain year, from a year on, itself included.
+#[inline(always)]
 pub(crate) fn nearest_year<P: PatternWords>(
     pattern: &P,
     from: u32,

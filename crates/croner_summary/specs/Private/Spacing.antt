@@ -6,6 +6,7 @@ use Rattle.croner_summary.specs.declared.phrase.Phrase.{Phrase}
 use Rattle.croner_summary.specs.declared.phrase.Piece.{Piece}
 use Rattle.croner_summary.specs.declared.phrase.Piece.TheVariants.{Every, EveryNth, Range, RangeNth}
 use Rattle.croner_summary.specs.Lengths.{length_of, words_in}
+use Rattle.croner_summary.specs.Order.{is_of_field}
 use Rattle.croner_summary.specs.Says.{is_in, is_stepwise}
 
 -- from a first value to a last one, the plain ones are those that are a whole number of steps from the first
@@ -37,8 +38,9 @@ IsShortestPiece least greatest f piece = (other : Piece) → NamesPlain least gr
 abbrev pub NoPieceNames : ℕ → ℕ → Field → Type 0
 NoPieceNames least greatest f = (piece : Piece) → NamesPlain least greatest f piece → ⊥
 
--- a piece that names exactly the plain values, with no more words than any other
+-- a piece of the field that names exactly the plain values, with no more words than any other
 pub record IsBestPiece (least greatest : ℕ) (f : Field) (piece : Piece) : Type 0 where
+  pub within : is_of_field least greatest piece ≡ true
   pub exact : NamesPlain least greatest f piece
   pub shortest : IsShortestPiece least greatest f piece
 

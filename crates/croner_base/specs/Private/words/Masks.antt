@@ -1,6 +1,6 @@
--- Masks of words, and what marking a range does to the words.
+-- Masks of words, and what marking does to the words.
 -- Private contracts alone cite these definitions.
-use Rattle.std.specs.Prelude.{ℕ, ◌≡◌, ◌+◌, ◌*◌, ◌<◌, ◌≤◌, List, slice_index}
+use Rattle.std.specs.Prelude.{ℕ, ◌≡◌, ◌+◌, ◌-◌, ◌*◌, ◌%◌, ◌<◌, ◌≤◌, List, slice_index}
 use Rattle.std.specs.Int.{bit_at}
 use Rattle.croner_base.specs.Private.words.Word.{word_bits}
 
@@ -17,8 +17,17 @@ MasksFrom mask from i = Masks mask i (λ v. from ≤ v)
 abbrev pub MasksTo : ℕ → ℕ → ℕ → Type 0
 MasksTo mask to i = Masks mask i (λ v. v ≤ to)
 
--- in the row whose first word is at `start`, the bits of the values from first on and before stop have become this; no other
--- bit has changed
-pub record TurnsRow (to : ℕ) (old new : List ℕ) (start first stop : ℕ) : Type 0 where
-  pub inside : (i b : ℕ) → b < word_bits → first ≤ i * word_bits + b → i * word_bits + b < stop → bit_at (slice_index new (start + i)) b ≡ to
-  pub kept : (p b : ℕ) → b < word_bits → ((i : ℕ) → p ≡ start + i → first ≤ i * word_bits + b → i * word_bits + b < stop → ⊥) → bit_at (slice_index new p) b ≡ bit_at (slice_index old p) b
+-- the word has a bit for each multiple of the step
+pub record MasksMultiples (mask step : ℕ) : Type 0 where
+  pub on : (b : ℕ) → b < word_bits → b % step ≡ 0 → bit_at mask b ≡ 1
+  pub only : (b : ℕ) → b < word_bits → bit_at mask b ≡ 1 → b % step ≡ 0
+
+-- the bits of a word stand that many places higher
+pub record StandsHigher (mask word by : ℕ) : Type 0 where
+  pub below : (b : ℕ) → b < word_bits → b < by → bit_at mask b ≡ 0
+  pub from : (b : ℕ) → b < word_bits → by ≤ b → bit_at mask b ≡ bit_at word (b - by)
+
+-- in the row whose first word is at `start`, the bits of the values that are asked for have become this; no other bit has changed
+pub record TurnsRow (to : ℕ) (old new : List ℕ) (start : ℕ) (asked : ℕ → Type 0) : Type 0 where
+  pub inside : (i b : ℕ) → b < word_bits → asked (i * word_bits + b) → bit_at (slice_index new (start + i)) b ≡ to
+  pub kept : (p b : ℕ) → b < word_bits → ((i : ℕ) → p ≡ start + i → asked (i * word_bits + b) → ⊥) → bit_at (slice_index new p) b ≡ bit_at (slice_index old p) b

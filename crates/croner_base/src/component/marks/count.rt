@@ -45,9 +45,13 @@ impl Marks {
 
     /// The first 64 values that have one of the modifiers of `bits`, as a word.
     #[inline(always)]
+    #[tactic(auto, using(crate::proofs::words::Counting::eight_shown))]
     pub fn low_word(&self, bits: u8) -> u64
         ensures { (v : ℕ) → v < word_bits → (bit_at result v == 1) ≡ is_set bits self.now v }
     {
+        if self.is_in_place {
+            return rows::values_of_eight(&self.in_place, self.max, bits);
+        }
         if self.max() == 0 {
             return 0;
         }

@@ -4,8 +4,10 @@ ghost use Rattle.std.specs.Prelude.{◌≡◌, ◌∷◌, [], ◌+◌, ◌*◌, 
 ghost use Rattle.croner_base.specs.Private.words.Next.{NoneFrom, IsLeast, NoneTo, IsGreatest};
 ghost use Rattle.croner_base.specs.Private.words.Rows.{in_row};
 ghost use Rattle.croner_base.specs.Private.words.Masks.{MasksFrom, MasksTo, TurnsRow};
+ghost use Rattle.croner_base.specs.Private.words.Marked.{Before, SteppedTo};
 ghost use Rattle.croner_base.specs.Private.words.Word.{word_bits};
 
+use super::steps::mark_each;
 use super::words::WORD_BITS;
 
 /// The least value of the row from the given one on.
@@ -130,11 +132,11 @@ pub fn mask_to(value: u16, i: usize) -> u64
 }
 
 /// Marks the values from `first` to `last` in the row whose first word is at `start`.
-pub fn mark_between(words: &mut [u64], start: usize, first: u16, last: u16)
+fn mark_between(words: &mut [u64], start: usize, first: u16, last: u16)
     requires order { first ≤ last }
     requires within { start + last / word_bits < length words.old }
     ensures rows { length words.new ≡ length words.old }
-    ensures marked { TurnsRow 1 words.old words.new start first (last + 1) }
+    ensures marked { TurnsRow 1 words.old words.new start (Before (λ v. first ≤ v) (last + 1)) }
 {
     let from = usize::from(first / WORD_BITS);
     let to = usize::from(last / WORD_BITS);
@@ -143,5 +145,21 @@ pub fn mark_between(words: &mut [u64], start: usize, first: u16, last: u16)
     if from < to {
         words[start + from + 1..start + to].fill(u64::MAX);
         words[start + to] |= mask_to(last, to);
+    }
+}
+
+/// Marks `first`, `first + step` and so on up to `last` in the row whose first word is at `start`.
+#[tactic(auto, using(crate::proofs::words::StepMasks::range_steps))]
+pub fn mark_steps(words: &mut [u64], start: usize, first: u16, last: u16, step: u16)
+    requires order { first ≤ last }
+    requires step { 0 < step }
+    requires within { start + last / word_bits < length words.old }
+    ensures rows { length words.new ≡ length words.old }
+    ensures marked { TurnsRow 1 words.old words.new start (SteppedTo first last step) }
+{
+    if step == 1 {
+        mark_between(words, start, first, last);
+    } else {
+        mark_each(words, start, first, last, step);
     }
 }

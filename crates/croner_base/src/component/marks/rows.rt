@@ -4,12 +4,13 @@ ghost use Rattle.std.specs.Prelude.{◌≡◌, ℕ, ◌+◌, ◌*◌, ◌/◌, �
 ghost use Rattle.std.specs.Int.{bit_at};
 ghost use Rattle.croner_base.specs.Field.{room};
 ghost use Rattle.croner_base.specs.Private.words.Counts.{ShowsMarked};
-ghost use Rattle.croner_base.specs.Private.words.Marked.{Turns, digit, turned, is_set};
+ghost use Rattle.croner_base.specs.Private.words.Kept.{NonePast};
+ghost use Rattle.croner_base.specs.Private.words.Marked.{SteppedTo, Turns, digit, turned, is_set};
 ghost use Rattle.croner_base.specs.Private.words.Rows.{width, rows_below, in_row, mark_at, sums_of, marks_in};
 ghost use Rattle.croner_base.specs.Private.words.Word.{word_bits};
 
 use super::row;
-use super::words::WORD_BITS;
+use super::words::{MODIFIERS, WORD_BITS};
 
 /// How many supported modifiers stand below modifier `k`.
 #[inline(always)]
@@ -81,7 +82,8 @@ fn turn(words: &mut [u64], max: u16, supported: u8, k: u8, value: u16, on: bool)
     requires within { value < room max }
     requires rows { length words.old ≡ rows_below supported 8 * width max }
     ensures rows { length words.new ≡ length words.old }
-    ensures turned { Turns (digit on) (marks_in words.old max supported) (marks_in words.new max supported) (2 ^ k) value value }
+    ensures turned { Turns (digit on) (marks_in words.old max supported) (marks_in words.new max supported) (2 ^ k) (λ v. v ≡ value) }
+    ensures past { NonePast words.old max → NonePast words.new max }
 {
     let place = place(max, supported, k, usize::from(value / WORD_BITS));
     let bit = 1 << (value % WORD_BITS);
@@ -103,6 +105,23 @@ pub fn values_with_any(words: &[u64], max: u16, supported: u8, bits: u8, i: usiz
     for k in 0..8 {
         if bits >> k & 1 == 1 {
             found |= word(words, max, supported, k, i);
+        }
+    }
+    found
+}
+
+/// The values that have one of the modifiers of `bits`, where each of the eight rows is one word. Bits past the maximum
+/// stand only where the words have them.
+#[inline(always)]
+pub fn values_of_eight(words: &[u64; MODIFIERS], max: u16, bits: u8) -> u64
+    requires { width max ≡ 1 }
+    ensures values { ShowsMarked (marks_in words.now max 255) bits 0 result }
+    ensures past { NonePast words.now max → (b : ℕ) → b < word_bits → room max ≤ b → bit_at result b ≡ 0 }
+{
+    let mut found = 0;
+    for k in 0..MODIFIERS {
+        if bits >> k & 1 == 1 {
+            found |= words[k];
         }
     }
     found
@@ -148,6 +167,7 @@ pub fn turn_each(words: &mut [u64], max: u16, supported: u8, bits: u8, value: u1
     requires rows { length words.old ≡ rows_below supported 8 * width max }
     ensures rows { length words.new ≡ length words.old }
     ensures turned { sums_of words.new max supported ≡ slice_set (sums_of words.old max supported) value (turned on (slice_index (sums_of words.old max supported) value) bits) }
+    ensures past { NonePast words.old max → NonePast words.new max }
 {
     for k in 0..8 {
         if bits >> k & 1 == 1 {
@@ -156,15 +176,25 @@ pub fn turn_each(words: &mut [u64], max: u16, supported: u8, bits: u8, value: u1
     }
 }
 
-/// Marks the values from `first` to `last` with modifier `k`, whose bit is 2 to the power `k`.
-pub fn mark_between(words: &mut [u64], max: u16, supported: u8, k: u8, first: u16, last: u16)
+/// Marks `first`, `first + step` and so on up to `last` with modifier `k`, whose bit is 2 to the power `k`.
+pub fn mark_steps(
+    words: &mut [u64],
+    max: u16,
+    supported: u8,
+    k: u8,
+    first: u16,
+    last: u16,
+    step: u16,
+)
     requires order { first ≤ last }
     requires within { last < room max }
+    requires step { 0 < step }
     requires modifier { k < 8 }
     requires is_supported { bit_at supported k ≡ 1 }
     requires rows { length words.old ≡ rows_below supported 8 * width max }
     ensures rows { length words.new ≡ length words.old }
-    ensures marked { Turns 1 (marks_in words.old max supported) (marks_in words.new max supported) (2 ^ k) first last }
+    ensures marked { Turns 1 (marks_in words.old max supported) (marks_in words.new max supported) (2 ^ k) (SteppedTo first last step) }
+    ensures past { NonePast words.old max → NonePast words.new max }
 {
-    row::mark_between(words, place(max, supported, k, 0), first, last);
+    row::mark_steps(words, place(max, supported, k, 0), first, last, step);
 }

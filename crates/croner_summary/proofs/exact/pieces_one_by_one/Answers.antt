@@ -1,20 +1,18 @@
-use Rattle.std.proofs.Common.{ap, sym, ◌∙◌}
+use Rattle.std.proofs.Common.{arith}
+use Rattle.std.proofs.lemmas.Bool.Decides.{nat_tests}
 use Rattle.croner_pattern.specs.Schedule.{is_named}
-use Rattle.croner_summary.specs.Says.{is_in_some}
-use Rattle.croner_summary.proofs.Exactly.{with_one, without_one}
+use Rattle.croner_summary.proofs.OneByOne.{answers_agree, answers_ordered}
 use Rattle.croner_summary.proofs.exact.pieces_one_by_one.Goals as goal
-use Rattle.croner_summary.proofs.exact.pieces_one_by_one.Goals.{then-has+in_ok-push, else-has}
+use Rattle.croner_summary.proofs.exact.pieces_one_by_one.Goals.{else-least-eq-SUNDAY-via-then-least-eq-SUNDAY+else-greatest-eq-SATURDAY, else-least-eq-SUNDAY-via-else-least-eq-SUNDAY}
 
-pub loop-value-preserved : goal.loop-value-preserved
-loop-value-preserved c =
-    elim c.if-has.branch [
-      | then-has+in_ok-push w ↦
-          λ value.
-          ap (λ v. is_in_some c.args.least c.args.greatest v.items value) w.pieces-is
-          ∙ ap (λ items. is_in_some c.args.least c.args.greatest items value) w.in_ok-push.ensures.items
-          ∙ with_one c.args.least c.args.greatest c.loop-value.pieces.items (is_named c.args.bit c.args.field.now) c.loop-value.value c.loop-value.auto.value (sym c.has.ensures ∙ w.if-has.true) c.loop-value.invariant value
-      | else-has w ↦
-          λ value.
-          ap (λ v. is_in_some c.args.least c.args.greatest v.items value) w.pieces-is
-          ∙ without_one c.args.least c.args.greatest c.loop-value.pieces.items (is_named c.args.bit c.args.field.now) c.loop-value.value (sym c.has.ensures ∙ w.if-has.false) c.loop-value.invariant value
-    ]
+pub returns-clause-ok : goal.returns-clause-ok
+returns-clause-ok c = answers_agree c.args.least c.args.greatest c.args.bit c.args.field.now c.ones_from.result c.ones_from.ensures.ok
+
+pub returns-clause-ordered : goal.returns-clause-ordered
+returns-clause-ordered c =
+    answers_ordered c.args.least c.args.greatest (is_named c.args.bit c.args.field.now) c.ones_from.result c.requires.order
+    (λ week sunday. elim c.else-least-eq-SUNDAY.branch [
+      | else-least-eq-SUNDAY-via-then-least-eq-SUNDAY+else-greatest-eq-SATURDAY w ↦ grind (arith, nat_tests)
+      | else-least-eq-SUNDAY-via-else-least-eq-SUNDAY w ↦ grind (arith, nat_tests)
+    ])
+    c.ones_from.ensures.ok

@@ -8,11 +8,13 @@ pub loop-k-preserved : goal.loop-k-preserved
 loop-k-preserved c = elim c.if-bits-k-eq1.branch [
   | then-bits-k-eq1 w ↦ record {
     rows = ap length w.words-is ∙ w.turn.ensures.rows ∙ c.loop-k.invariant.rows;
-    done = rw w.words-is (turns_more _ _ _ _ _ _ _ c.loop-k.k w.if-bits-k-eq1.true c.loop-k.invariant.done w.turn.ensures.turned);
+    done = rw w.words-is (turns_more _ _ _ _ _ c.loop-k.k _ w.if-bits-k-eq1.true c.loop-k.invariant.done w.turn.ensures.turned);
+    past = rw w.words-is (λ none. w.turn.ensures.past (c.loop-k.invariant.past none));
   }
   | else-bits-k-eq1 w ↦ record {
     rows = ap length w.words-is ∙ c.loop-k.invariant.rows;
-    done = rw w.words-is (turns_skip _ _ _ _ _ _ c.loop-k.k w.if-bits-k-eq1.false c.loop-k.invariant.done);
+    done = rw w.words-is (turns_skip _ _ _ _ c.loop-k.k _ w.if-bits-k-eq1.false c.loop-k.invariant.done);
+    past = rw w.words-is c.loop-k.invariant.past;
   }
 ]
 
