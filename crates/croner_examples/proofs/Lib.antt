@@ -1,3 +1,4 @@
 pub mod HeldRuns
 pub mod Intervals
 pub mod Passing
+pub mod ZoneRuns

@@ -1,3 +1,4 @@
 pub mod OwnTime
 pub mod Plans
 pub mod Private
+pub mod ZoneRuns

@@ -15,6 +15,7 @@ mod restart;
 mod scheduler;
 mod wake_ups;
 mod workdays;
+mod zone_clock;
 mod zones;
 
 use croner::time::table::{ClockTable, TableTime};
@@ -38,6 +39,7 @@ fn show_in_paris(rt: &HostRuntime) -> anyhow::Result<()> {
     let cron = Cron::from_str(rt.alloc(), "*/30 2 * * *")?;
     let day = now.to_zoned(zones.get("Europe/Paris")?);
     named_job::show_day(rt, &Job { name, cron }, &day)?;
+    zone_clock::show_in_anchorage(rt, &zones)?;
     show_in_table(rt, &zones, now)
 }
 
