@@ -1,3 +1,0 @@
-pub mod HeldRuns
-pub mod Intervals
-pub mod Passing

@@ -1,3 +1,2 @@
 pub mod OwnTime
 pub mod Plans
-pub mod Private
