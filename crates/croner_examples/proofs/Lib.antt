@@ -1,4 +1,1 @@
-pub mod HeldRuns
-pub mod Intervals
-pub mod Passing
 pub mod ZoneRuns

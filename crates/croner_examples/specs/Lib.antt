@@ -1,4 +1,3 @@
 pub mod OwnTime
 pub mod Plans
-pub mod Private
 pub mod ZoneRuns

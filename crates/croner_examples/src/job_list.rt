@@ -1,6 +1,7 @@
 //! A program that starts a list of jobs when they are due.
 use crate::scheduler::{Task, serve};
 use croner::Cron;
+use croner_jobs::Named;
 use croner_scheduler::Scheduler;
 use jiff::tz::{TimeZone, TimeZoneDatabase};
 use jiff::{Timestamp, Zoned};
@@ -16,9 +17,9 @@ pub fn add<'z>(
     pattern: &str,
     position: Zoned<'z>,
 ) -> anyhow::Result<u64> {
-    let when = Cron::from_str(rt.alloc(), pattern)?;
+    let job = Cron::from_str(rt.alloc(), pattern)?;
     let name = String::from_str(rt.alloc(), name)?;
-    Ok(tasks.add(Task { name, when }, position)?.id)
+    Ok(tasks.add(Named { name, job }, position)?.id)
 }
 
 /// Adds a job of Paris and one of UTC, and prints when the first run of these is due.

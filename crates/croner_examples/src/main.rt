@@ -2,7 +2,6 @@
 #![tactic(auto)]
 
 mod guide;
-mod interval;
 mod job_list;
 mod kept;
 mod named_job;
@@ -14,7 +13,6 @@ mod reminders;
 mod restart;
 mod scheduler;
 mod wake_ups;
-mod workdays;
 mod zone_clock;
 mod zones;
 

@@ -1,9 +1,8 @@
 //! Four kinds of jobs for one scheduler.
-use crate::interval::Interval;
-use crate::workdays::Workdays;
 use croner::errors::CronError;
 use croner::time::table::TableTime;
 use croner::{Cron, Recurring};
+use croner_jobs::{Interval, OnDates};
 use crontab_runs::CrontabJob;
 
 /// When a job runs.
@@ -14,7 +13,7 @@ pub enum Plan {
     /// When Debian's cron starts a line of a crontab.
     AsCron(CrontabJob),
     /// By a pattern, but not on some dates.
-    OnWorkdays(Workdays),
+    OnWorkdays(OnDates<Cron>),
     /// At regular intervals.
     AtIntervals(Interval),
 }

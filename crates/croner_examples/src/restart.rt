@@ -1,12 +1,11 @@
 //! Jobs of four kinds, which go on after a restart from where they were.
-use crate::interval::Interval;
 use crate::kept::{keep, kept_in, position_of, start_and_keep};
 use crate::plan::Plan;
 use crate::scheduler::Task;
-use crate::workdays::Workdays;
 use croner::Cron;
 use croner::time::CivilDate;
 use croner::time::table::{ClockTable, TableTime};
+use croner_jobs::{Dates, Interval, Named, OnDates};
 use croner_scheduler::Scheduler;
 use crontab_runs::CrontabJob;
 use jiff::tz::TimeZoneDatabase;
@@ -38,7 +37,10 @@ fn report(alloc: Global) -> anyhow::Result<Plan> {
     let cron = Cron::from_str(alloc, "0 9 * * MON-FRI")?;
     let mut left_out = Vec::new(alloc);
     left_out.push(CivilDate::from_ymd(2024, 4, 1)?)?;
-    Ok(Plan::OnWorkdays(Workdays { cron, left_out }))
+    Ok(Plan::OnWorkdays(OnDates {
+        job: cron,
+        dates: Dates::AllBut(left_out),
+    }))
 }
 
 // Every 90 minutes from 2024-04-02T06:00:00 in Paris on.
@@ -51,13 +53,13 @@ fn add<'t>(
     alloc: Global,
     tasks: &mut PlannedTasks<'t>,
     name: &str,
-    when: Plan,
+    job: Plan,
     kept: &Value,
     now: &TableTime<'t>,
 ) -> anyhow::Result<()> {
     if let Some(position) = position_of(kept, name, now) {
         let name = String::from_str(alloc, name)?;
-        tasks.add(Task { name, when }, position)?;
+        tasks.add(Named { name, job }, position)?;
     }
     Ok(())
 }

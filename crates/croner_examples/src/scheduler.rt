@@ -1,6 +1,6 @@
 //! Jobs that come and go, each on the clock of its own zone.
-use croner::errors::CronError;
 use croner::{Clocked, Recurring};
+use croner_jobs::Named;
 use croner_scheduler::Scheduler;
 use std::thread;
 use std::time::{Clock, Duration};
@@ -8,25 +8,8 @@ use std::time::{Clock, Duration};
 /// The most seconds that the program sleeps, since a machine that was suspended wakes late, and clocks are set.
 const MOST_SECONDS: u64 = 60;
 
-/// What a job starts, and when it runs.
-#[derive(Drop)]
-pub struct Task<J> {
-    pub name: String,
-    pub when: J,
-}
-
-/// Its runs are those of its `when`.
-impl<J: Recurring<T>, T: Clocked> Recurring<T> for Task<J> {
-    ghost runs = { λ task. J.runs task.when };
-
-    fn next_after(&self, after: &T) -> Result<T, CronError> {
-        self.when.next_after(after)
-    }
-
-    fn last_until(&self, until: &T) -> Result<T, CronError> {
-        self.when.last_until(until)
-    }
-}
+/// What a job starts, by its name, and when it runs.
+pub type Task<J> = Named<String, J>;
 
 /// Starts the first run that is due up to a second. Returns whether there was one.
 pub fn start_next<J: Recurring<T>, T: Clocked>(
