@@ -1,0 +1,4 @@
+pub mod Clocks
+pub mod Patterns
+pub mod Status
+pub mod Written
