@@ -1,0 +1,67 @@
+"""What the tests share that call the library for other languages: where it is made, and programs over it."""
+import os
+import re
+import shutil
+import subprocess
+from pathlib import Path
+
+TOP = Path(__file__).resolve().parent.parent
+SONAME = "libcroner.so.1"
+NEXT_RUNS = {
+    "c": r"@\d+ \d{4}-\d\d-\d\dT0[78]:00:00Z\n",
+    "python": r"(\d{4}-\d\d-\d\d 09:00:00\+0[12]:00\n){4}",
+    "rust": r"\d{4}-\d\d-\d\dT09:00:00\+0[12]:00\n",
+}
+
+
+def debian(name):
+    """Debian's own program of a name, since its packages are of that; else the one in PATH, or None."""
+    path = f"/usr/bin/{name}"
+    return path if os.access(path, os.X_OK) else shutil.which(name)
+
+
+def called(*words, **more):
+    """A call, with all that it writes as its standard output."""
+    both = {"stdout": subprocess.PIPE, "stderr": subprocess.STDOUT, "stdin": subprocess.DEVNULL, "text": True, "check": False}
+    return subprocess.run([str(it) for it in words], **both, **more)
+
+
+def package(folder, to):
+    """Puts the Python package into a folder, with the library of a folder in it."""
+    shutil.copytree(TOP / "bindings/python", to, ignore=shutil.ignore_patterns("__pycache__"))
+    shutil.copy(folder / SONAME, to / "croner" / SONAME)
+
+
+def next_run_of_c(folder, room):
+    made = called("cc", TOP / "bindings/c/next_run.c", "-I", TOP / "bindings/c", "-L", folder, "-lcroner", "-o", room / "next_run")
+    return made if made.returncode else called(room / "next_run", env={"LD_LIBRARY_PATH": str(folder)})
+
+
+def next_run_of_python(folder, room):
+    package(folder, room / "package")
+    env = {**os.environ, "PYTHONPATH": str(room / "package")}
+    return called(debian("python3"), TOP / "bindings/python/next_run.py", env=env)
+
+
+def next_run_of_rust(folder, room):
+    rust, rustc = TOP / "bindings/rust", [debian("rustc"), "--edition", "2021"]
+    library = ["--crate-type", "rlib", "--crate-name", "croner_proved", "--out-dir", room, "-L", f"native={folder}", "-l", "static=croner"]
+    made = called(*rustc, *library, rust / "src/lib.rs")
+    if not made.returncode:
+        words = ["--extern", f"croner_proved={room}/libcroner_proved.rlib", "-o", room / "next_run_of_rust"]
+        made = called(*rustc, *words, rust / "examples/next_run.rs")
+    return made if made.returncode else called(room / "next_run_of_rust")
+
+
+def next_runs(folder, room):
+    """Of each language what its program of the next run lacks to be run, and what is said where it fails; each is empty where nothing is."""
+    for language, needs, run in (
+        ("c", ["cc"], next_run_of_c), ("python", ["python3"], next_run_of_python), ("rust", ["rustc", "cc"], next_run_of_rust)
+    ):
+        lacks = [it for it in needs if not debian(it)]
+        if lacks:
+            yield language, " and ".join(lacks), ""
+            continue
+        ran = run(folder, Path(room))
+        is_right = ran.returncode == 0 and re.fullmatch(NEXT_RUNS[language], ran.stdout)
+        yield language, "", "" if is_right else f"status {ran.returncode}: {ran.stdout}"
