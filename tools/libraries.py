@@ -32,6 +32,14 @@ def package(folder, to):
     shutil.copy(folder / SONAME, to / "croner" / SONAME)
 
 
+def made(folder):
+    """The folder with the library, and what is said where it can't be made."""
+    if not (TOP / "crates/croner_c/out/libcroner_c.a").is_file():
+        return folder, "the proved library isn't built"
+    ran = called(TOP / "tools/library", folder)
+    return folder, ran.stdout.strip() if ran.returncode else ""
+
+
 def next_run_of_c(folder, room):
     made = called("cc", TOP / "bindings/c/next_run.c", "-I", TOP / "bindings/c", "-L", folder, "-lcroner", "-o", room / "next_run")
     return made if made.returncode else called(room / "next_run", env={"LD_LIBRARY_PATH": str(folder)})
@@ -39,8 +47,7 @@ def next_run_of_c(folder, room):
 
 def next_run_of_python(folder, room):
     package(folder, room / "package")
-    env = {**os.environ, "PYTHONPATH": str(room / "package")}
-    return called(debian("python3"), TOP / "bindings/python/next_run.py", env=env)
+    return called(debian("python3"), room / "package/next_run.py")
 
 
 def next_run_of_rust(folder, room):

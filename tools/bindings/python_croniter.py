@@ -2,7 +2,7 @@
 """Compares the Python package with croniter on made-up questions in UTC: python_croniter.py FOLDER [QUESTIONS [SEED]].
 
 A pattern has five fields, without L and #, which croniter doesn't have or reads otherwise. Of each the next three runs after a start and the
-two before it are asked. Where the two differ, that is of a kind that `kind_of` knows and shows, or it has failed.
+two before it are asked. Where the two differ, that is of a kind that `kinds_of` knows and shows, or it has failed.
 
 The last line is 'N passed, M failed'; the status is 0 where none failed.
 """
@@ -10,7 +10,7 @@ import random
 import sys
 from collections import Counter
 from datetime import datetime, timedelta, timezone
-from itertools import islice
+from itertools import compress, islice, product
 from pathlib import Path
 
 sys.path.insert(0, str(Path(sys.argv[1]).resolve()))
@@ -48,11 +48,9 @@ def field(made, place):
     return ",".join(part(made, place) for _ in range(made.choice((1, 1, 1, 2, 3))))
 
 
-def runs(job, start, leaves_out=lambda run: False):
-    """The answers to the questions of a pattern, without some runs."""
-    after = islice((it for it in job.runs(start) if not leaves_out(it)), AFTER)
-    before = islice((it for it in backward(job, start) if not leaves_out(it)), BEFORE)
-    return filled(after, AFTER) + filled(before, BEFORE)
+def answers(job, start, is_after=None, is_before=None):
+    """The answers to the questions of a pattern, of the runs that are kept."""
+    return filled(filter(is_after, job.runs(start)), AFTER) + filled(filter(is_before, backward(job, start)), BEFORE)
 
 
 def backward(job, time):
@@ -64,7 +62,7 @@ def backward(job, time):
 
 
 def filled(found, count):
-    return (list(found) + [None] * count)[:count]
+    return (list(islice(found, count)) + [None] * count)[:count]
 
 
 def theirs(pattern, start):
@@ -79,35 +77,41 @@ def theirs(pattern, start):
     return found
 
 
-# ---- why the two differ: each kind is a question to the package whose answer is croniter's
+# ---- why the two differ: with each kind the package's answers, changed by it, have to be croniter's
 
-def is_leap_day(run):
-    return (run.month, run.day) == (2, 29)
+def is_no_leap_day(run):
+    return (run.month, run.day) != (2, 29)
+
+
+def is_not_early_in_march(run):
+    return run.month != 3 or run.day > 3
 
 
 def with_star(pattern):
-    """The pattern with a star for a day field that names every value, as croniter takes it; None where there is none."""
+    """The pattern with a star for each day field that names every value."""
+    fields, values = pattern.split(" "), croniter.expand(pattern)[0]
+    return " ".join("*" if place in (2, 4) and values[place] == ["*"] else it for place, it in enumerate(fields))
+
+
+def by_days_alone(pattern):
     fields = pattern.split(" ")
-    for place, values in ((2, 31), (4, 7)):
-        if fields[place] != "*" and len(croniter.expand(pattern)[0][place]) in (1, values) and croniter.expand(pattern)[0][place][0] == "*":
-            fields[place] = "*"
-    return " ".join(fields) if " ".join(fields) != pattern else None
+    return " ".join([*fields[:4], "*"])
 
 
-def kind_of(pattern, start, wanted):
-    """The kind of a difference, or None."""
-    star = with_star(pattern)
-    for name, text, leaves_out in (
-        ("*/1 or 1-31 as a day, or all weekdays: croniter takes it for a star, so that only the other day field counts", star, None),
-        ("croniter passes over 29 February on its way back", pattern, is_leap_day),
-        ("both", star, is_leap_day),
-    ):
-        if text:
-            found = runs(croner.Cron(text), start)
-            if leaves_out:
-                found[AFTER:] = runs(croner.Cron(text), start, leaves_out)[AFTER:]
-            if found == wanted:
-                return name
+STAR = "a day field that names every value, as */1 or 0-7, is a star to croniter, so that only the other one counts"
+LEAP = "croniter passes over 29 February on its way back"
+MARCH = "from February, where the days have a 29, 30 or 31, croniter passes over the first days of March"
+NONE = "croniter finds nothing where no month has the days, though weekdays are given"
+
+
+def kinds_of(pattern, start, wanted):
+    """Why the two differ, or None."""
+    if wanted == [None] * (AFTER + BEFORE) and croner.Cron(by_days_alone(pattern)).next(start) is None:
+        return (NONE,)
+    for has_star, passes_march, passes_leap in product((False, True), repeat=3):
+        job = croner.Cron(with_star(pattern) if has_star else pattern)
+        if answers(job, start, passes_march and is_not_early_in_march or None, passes_leap and is_no_leap_day or None) == wanted:
+            return tuple(compress((STAR, MARCH, LEAP), (has_star, passes_march, passes_leap)))
     return None
 
 
@@ -118,18 +122,18 @@ def main():
     for _ in range(questions // (AFTER + BEFORE)):
         pattern = " ".join(field(made, it) for it in range(5))
         start = FIRST + timedelta(seconds=made.randrange((LAST - FIRST) // timedelta(seconds=1)))
-        found, wanted = runs(croner.Cron(pattern), start), theirs(pattern, start)
-        kind = "" if found == wanted else kind_of(pattern, start, wanted)
-        if kind == "":
-            same += AFTER + BEFORE
-        elif kind:
-            kinds[kind] += AFTER + BEFORE
+        found, wanted = answers(croner.Cron(pattern), start), theirs(pattern, start)
+        why = () if found == wanted else kinds_of(pattern, start, wanted)
+        if why is not None:
+            same += AFTER + BEFORE if not why else sum(a == b for a, b in zip(found, wanted))
+            kinds[why] += sum(a != b for a, b in zip(found, wanted))
         else:
             failed += 1
             print(pattern, start.isoformat(), *("none" if it is None else it.isoformat() for it in [*found, *wanted]))
     print(f"{questions:,} questions beside croniter: {same:,} the same")
-    for kind, count in kinds.most_common():
-        print(f"{count:,} of patterns of this kind: {kind}")
+    for why, count in kinds.most_common():
+        if why:
+            print(f"{count:,} others: {'; and '.join(why)}")
     print(f"{int(not failed)} passed, {failed} failed")
     return min(failed, 1)
 
