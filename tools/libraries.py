@@ -7,6 +7,7 @@ from pathlib import Path
 
 TOP = Path(__file__).resolve().parent.parent
 SONAME = "libcroner.so.1"
+PARIS = Path("/usr/share/zoneinfo/Europe/Paris")
 NEXT_RUNS = {
     "c": r"@\d+ \d{4}-\d\d-\d\dT0[78]:00:00Z\n",
     "python": r"(\d{4}-\d\d-\d\d 09:00:00\+0[12]:00\n){4}",
@@ -65,7 +66,7 @@ def next_runs(folder, room):
     for language, needs, run in (
         ("c", ["cc"], next_run_of_c), ("python", ["python3"], next_run_of_python), ("rust", ["rustc", "cc"], next_run_of_rust)
     ):
-        lacks = [it for it in needs if not debian(it)]
+        lacks = [it for it in needs if not debian(it)] + [str(PARIS)] * (not PARIS.is_file())
         if lacks:
             yield language, " and ".join(lacks), ""
             continue

@@ -60,7 +60,7 @@ def start_of(time):
         raise TypeError(f"a time is a datetime with a zone, and not of {type(time).__name__}")
     zone = zone_of(time.tzinfo)
     since = time - EPOCH
-    return zone, since.days * SECONDS_PER_DAY + since.seconds, since.microseconds != 0
+    return zone, since.days * SECONDS_PER_DAY + since.seconds, time.microsecond != 0
 
 
 def until_of(until):

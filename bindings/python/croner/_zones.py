@@ -2,7 +2,6 @@
 import zoneinfo
 from ctypes import byref, c_int32, c_size_t, sizeof
 from datetime import timedelta, timezone
-from functools import lru_cache
 from importlib import resources
 from pathlib import Path, PurePosixPath
 
@@ -16,7 +15,7 @@ NEAR_BLOCKS = (19, 22, 24, 26, 27, 28, 29, 30, 31, 34)
 DAYS_ABOUT = 200_000
 # The years 1 to 4999, in which runs are searched, and some days.
 FIRST_SEARCHED, LAST_SEARCHED = -62135596800 - 200_000, 95617584000 + 200_000
-MOST_CLOCKS = 200
+MOST_CLOCKS, MOST_ZONES = 200, 2_000
 
 
 class ClockError(ValueError):
@@ -137,28 +136,18 @@ def checked(key, data):
     return data
 
 
-@lru_cache(maxsize=1000)
 def fixed_zone(offset):
     if offset.microseconds:
         raise ValueError(f"the offset {offset} is no whole number of seconds")
     return FixedZone(offset // timedelta(seconds=1))
 
 
-UTC = fixed_zone(timedelta())
-NAMED = {}
-
-
 def named_zone(key):
-    found = NAMED.get(key)
-    if found is None:
-        found = NAMED[key] = NamedZone(key)
-    return found
+    """The zone of a name, whose file is read once."""
+    return NAMED.get(key) or NAMED.setdefault(key, NamedZone(key))
 
 
-def zone_of(zone):
-    """The clocks of a datetime's zone."""
-    if zone is timezone.utc:
-        return UTC
+def new_zone(zone):
     if isinstance(zone, zoneinfo.ZoneInfo):
         if zone.key is None:
             raise TypeError("a ZoneInfo without a key, as of ZoneInfo.from_file, can't be looked up: take ZoneInfo(NAME)")
@@ -168,3 +157,16 @@ def zone_of(zone):
     if zone is None:
         raise ValueError("the datetime is naive: give it a zone, as in datetime.now(ZoneInfo('Europe/Paris'))")
     raise TypeError(f"zones are of zoneinfo.ZoneInfo or datetime.timezone, and not of {type(zone).__name__}")
+
+
+def zone_of(zone):
+    """The clocks of a datetime's zone."""
+    found = ZONES.get(zone)
+    if found is None:
+        if len(ZONES) >= MOST_ZONES:
+            ZONES.clear()
+        found = ZONES[zone] = new_zone(zone)
+    return found
+
+
+NAMED, ZONES = {}, {}
