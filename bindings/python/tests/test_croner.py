@@ -8,6 +8,7 @@ import sys
 import tempfile
 import threading
 import unittest
+import zipfile
 import zoneinfo
 from datetime import date, datetime, timedelta, timezone, tzinfo
 from itertools import islice
@@ -380,6 +381,24 @@ class Opening(unittest.TestCase):
             self.assertIn("ImportError", found.stderr)
             self.assertNotIn("invalid ELF header", found.stderr)
             self.assertIn("libcroner.so.1", found.stderr)
+
+
+class Wheel(unittest.TestCase):
+    def test_it_has_the_package(self):
+        with tempfile.TemporaryDirectory() as room:
+            code = "import sys, wheel_backend; print(wheel_backend.build_wheel(sys.argv[1]))"
+            words = [sys.executable, "-c", code, room]
+            built = subprocess.run(words, cwd=PACKAGE.parent, capture_output=True, text=True, check=True)
+            path = Path(room, built.stdout.strip())
+            with zipfile.ZipFile(path) as wheel:
+                wheel.extractall(Path(room, "installed"))
+                names = {it.split("/")[-1] for it in wheel.namelist()}
+            self.assertLessEqual({"__init__.py", "__init__.pyi", "py.typed", "METADATA", "WHEEL", "RECORD"}, names)
+            self.assertEqual("libcroner.so.1" in names, (PACKAGE / "libcroner.so.1").exists())
+            if "libcroner.so.1" in names:
+                code = "import sys; sys.path.insert(0, sys.argv[1]); import croner; print(croner.Cron('* * * * *'))"
+                words = [sys.executable, "-I", "-c", code, f"{room}/installed"]
+                self.assertEqual(subprocess.run(words, capture_output=True, text=True, check=True).stdout, "* * * * *\n")
 
 
 if __name__ == "__main__":
