@@ -2,7 +2,7 @@
 
 use std::env;
 use std::path::{Path, PathBuf};
-use std::process::Command;
+use std::process::{exit, Command};
 
 const SYSTEM: [&str; 3] = ["/usr/local/lib", "/usr/lib/x86_64-linux-gnu", "/usr/lib"];
 
@@ -26,7 +26,10 @@ fn main() {
     };
     let folder = match places.iter().find(|it| has_library(it)) {
         Some(folder) => folder,
-        None => panic!("there is no libcroner.a in {places:?}: set CRONER_LIB_DIR to its folder"),
+        None => {
+            eprintln!("there is no libcroner.a in {places:?}: set CRONER_LIB_DIR to its folder");
+            exit(1);
+        }
     };
     println!("cargo:rerun-if-changed={}", folder.join("libcroner.a").display());
     println!("cargo:rustc-link-search=native={}", folder.display());
