@@ -83,8 +83,9 @@ def is_no_leap_day(run):
     return (run.month, run.day) != (2, 29)
 
 
-def is_not_early_in_march(run):
-    return run.month != 3 or run.day > 3
+def without_march(days):
+    """Whether a run isn't one of the first so many days of March."""
+    return lambda run: run.month != 3 or run.day > days
 
 
 def with_star(pattern):
@@ -108,10 +109,11 @@ def kinds_of(pattern, start, wanted):
     """Why the two differ, or None."""
     if wanted == [None] * (AFTER + BEFORE) and croner.Cron(by_days_alone(pattern)).next(start) is None:
         return (NONE,)
-    for has_star, passes_march, passes_leap in product((False, True), repeat=3):
+    for has_star, days_of_march, passes_leap in product((False, True), range(4), (False, True)):
         job = croner.Cron(with_star(pattern) if has_star else pattern)
-        if answers(job, start, passes_march and is_not_early_in_march or None, passes_leap and is_no_leap_day or None) == wanted:
-            return tuple(compress((STAR, MARCH, LEAP), (has_star, passes_march, passes_leap)))
+        is_after, is_before = without_march(days_of_march), is_no_leap_day if passes_leap else None
+        if answers(job, start, is_after, is_before) == wanted:
+            return tuple(compress((STAR, MARCH, LEAP), (has_star, days_of_march, passes_leap)))
     return None
 
 
