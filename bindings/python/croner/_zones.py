@@ -1,7 +1,7 @@
 """The clocks of datetimes' zones, as the library wants them."""
 import zoneinfo
 from ctypes import byref, c_int32, c_size_t, sizeof
-from datetime import timedelta, timezone
+from datetime import datetime, timedelta, timezone
 from importlib import resources
 from pathlib import Path, PurePosixPath
 
@@ -16,6 +16,7 @@ DAYS_ABOUT = 200_000
 # The years 1 to 4999, in which runs are searched, and some days.
 FIRST_SEARCHED, LAST_SEARCHED = -62135596800 - 200_000, 95617584000 + 200_000
 MOST_CLOCKS, MOST_ZONES = 200, 2_000
+EPOCH = datetime(1970, 1, 1)
 
 
 class ClockError(ValueError):
@@ -101,9 +102,8 @@ class NamedZone:
             room = count.value
 
     def refuse(self, second):
-        raise ClockError(
-            f"the clock of {self.key} changes too often or too far for a search from second {second}: it isn't calm"
-        )
+        date = (EPOCH + timedelta(seconds=second)).date()
+        raise ClockError(f"the clock of {self.key} isn't followed from {date}: it changes too often, or too far")
 
     def refuse_file(self):
         raise ClockError(f"the file of {self.key} is no time zone file")
