@@ -6,7 +6,7 @@ import subprocess
 from pathlib import Path
 
 TOP = Path(__file__).resolve().parent.parent
-SONAME = "libcroner.so.1"
+SONAME, ARCHIVE = "libcroner.so.1", TOP / "crates/croner_c/out/libcroner_c.a"
 PARIS = Path("/usr/share/zoneinfo/Europe/Paris")
 NEXT_RUNS = {
     "c": r"@\d+ \d{4}-\d\d-\d\dT0[78]:00:00Z\n",
@@ -33,16 +33,19 @@ def package(folder, to):
     shutil.copy(folder / SONAME, to / "croner" / SONAME)
 
 
-def made(folder):
-    """The folder with the library, and what is said where it can't be made."""
-    if not (TOP / "crates/croner_c/out/libcroner_c.a").is_file():
-        return folder, "the proved library isn't built"
-    ran = called(TOP / "tools/library", folder)
-    return folder, ran.stdout.strip() if ran.returncode else ""
+def made(folder, *words):
+    """Makes the library in a folder by tools/library. Gives the folder of its files, and what is said where it can't be made."""
+    ran = called(TOP / "tools/library", *words, folder)
+    return folder / "lib", ran.stdout.strip() if ran.returncode else ""
+
+
+def made_of_archive(folder):
+    """The same of the archive that was proved last."""
+    return made(folder, "--of", ARCHIVE) if ARCHIVE.is_file() else (folder, "the proved library isn't built")
 
 
 def next_run_of_c(folder, room):
-    made = called("cc", TOP / "bindings/c/next_run.c", "-I", TOP / "bindings/c", "-L", folder, "-lcroner", "-o", room / "next_run")
+    made = called("cc", TOP / "bindings/c/next_run.c", "-I", folder.parent / "include", "-L", folder, "-lcroner", "-o", room / "next_run")
     return made if made.returncode else called(room / "next_run", env={"LD_LIBRARY_PATH": str(folder)})
 
 
