@@ -44,6 +44,14 @@ def made_of_archive(folder):
     return made(folder, "--of", ARCHIVE) if ARCHIVE.is_file() else (folder, "the proved library isn't built")
 
 
+def made_after_ci(folder):
+    """The same where `rt ci` has just proved all."""
+    ran = called(TOP / "tools/bindings/archive.py")
+    if ran.returncode == 2:
+        return made(folder)
+    return made(folder, "--of", ARCHIVE) if ran.returncode == 0 else (folder, ran.stdout.strip())
+
+
 def next_run_of_c(folder, room):
     made = called("cc", TOP / "bindings/c/next_run.c", "-I", folder.parent / "include", "-L", folder, "-lcroner", "-o", room / "next_run")
     return made if made.returncode else called(room / "next_run", env={"LD_LIBRARY_PATH": str(folder)})
