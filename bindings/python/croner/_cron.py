@@ -171,12 +171,17 @@ class Cron:
     def _found(self, find, zone, second, inclusive, shown, is_forward):
         run = c_int64()
         status = find(self._text, self._length, self._bits, zone.clock_at(second).reference, second, inclusive, byref(run))
-        if status == lib.OUTSIDE:
-            for clock in zone.wider(second, is_forward):
-                status = find(*self._words(), clock.reference, second, inclusive, byref(run))
-                if status != lib.OUTSIDE:
-                    break
-        return datetime.fromtimestamp(run.value, shown) if is_left(status) else None
+        if status:
+            status = self._found_in_wider(find, zone, second, inclusive, run, is_forward, status)
+        return datetime.fromtimestamp(run.value, shown) if not status or is_left(status) else None
+
+    def _found_in_wider(self, find, zone, second, inclusive, run, is_forward, status):
+        """The status by wider clocks, where the run lies outside."""
+        for clock in zone.wider(second, is_forward) if status == lib.OUTSIDE else ():
+            status = find(*self._words(), clock.reference, second, inclusive, byref(run))
+            if status != lib.OUTSIDE:
+                break
+        return status
 
     def runs(self, start, *, count=None, until=None, inclusive=False):
         zone, second, has_fraction = start_of(start)
