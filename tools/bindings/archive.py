@@ -40,7 +40,9 @@ def module_of_kit():
 def main():
     sys.dont_write_bytecode = True
     rtlib, before = module_of_kit(), state()
-    crate = next(it for it in rtlib.crates_below(str(TOP)) if it.name == CRATE)
+    crate = {it.name: it for it in rtlib.crates_below(str(TOP))}.get(CRATE)
+    if not crate:
+        sys.exit(f"archive: there is no crate {CRATE}")
     lacking = [it.name for it in crate.below() if not os.path.isdir(it.rlib)]
     if lacking:
         sys.exit(f"archive: not proved here: {' '.join(lacking)}")
