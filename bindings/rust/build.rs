@@ -7,7 +7,10 @@ use std::process::{exit, Command};
 const SYSTEM: [&str; 3] = ["/usr/local/lib", "/usr/lib/x86_64-linux-gnu", "/usr/lib"];
 
 fn by_pkg_config() -> Option<PathBuf> {
-    let said = Command::new("pkg-config").args(["--variable=libdir", "croner"]).output().ok()?;
+    let said = Command::new("pkg-config")
+        .args(["--variable=libdir", "croner"])
+        .output()
+        .ok()?;
     let folder = String::from_utf8(said.stdout).ok()?;
     (said.status.success() && !folder.trim().is_empty()).then(|| PathBuf::from(folder.trim()))
 }

@@ -24,7 +24,12 @@ pub struct ClockTable {
 impl ClockTable {
     /// The clock of UTC.
     pub fn utc() -> ClockTable {
-        ClockTable { first: raw::FIRST_SECOND, last: raw::LAST_SECOND, ahead: 0, changes: Vec::new() }
+        ClockTable {
+            first: raw::FIRST_SECOND,
+            last: raw::LAST_SECOND,
+            ahead: 0,
+            changes: Vec::new(),
+        }
     }
 
     /// A clock that is always so many seconds ahead of UTC.
@@ -35,8 +40,20 @@ impl ClockTable {
     /// A clock that is so many seconds ahead of UTC, and from each change's second on as many as it says. It is right from a
     /// first second to a last one; its changes should reach two days beyond these.
     pub fn new(ahead: i32, changes: &[(i64, i32)], first: i64, last: i64) -> Result<ClockTable, CronError> {
-        let changes = changes.iter().map(|&(second, ahead)| raw::Change { second, ahead, reserved: 0 }).collect();
-        let table = ClockTable { first, last, ahead, changes };
+        let changes = changes
+            .iter()
+            .map(|&(second, ahead)| raw::Change {
+                second,
+                ahead,
+                reserved: 0,
+            })
+            .collect();
+        let table = ClockTable {
+            first,
+            last,
+            ahead,
+            changes,
+        };
         let mut found = 0;
         // SAFETY: the pointers are of a text, a clock and a number that live through the call.
         raw::done(unsafe { raw::croner_matches("* * * * *".as_ptr().cast(), 9, 0, &table.raw(), first, &mut found) })?;
@@ -49,7 +66,10 @@ impl ClockTable {
         if name.is_empty() || !path.components().all(|it| matches!(it, Component::Normal(_))) {
             return Err(CronError::InvalidZone);
         }
-        let file = FOLDERS.iter().map(|it| Path::new(it).join(path)).find(|it| it.is_file());
+        let file = FOLDERS
+            .iter()
+            .map(|it| Path::new(it).join(path))
+            .find(|it| it.is_file());
         let bytes = file.and_then(|it| fs::read(it).ok()).ok_or(CronError::InvalidZone)?;
         ClockTable::of_tzif(&bytes, first, last)
     }
@@ -66,7 +86,16 @@ impl ClockTable {
     pub fn of_posix(rule: &str, first: i64, last: i64) -> Result<ClockTable, CronError> {
         // SAFETY: as in `of_tzif`.
         listed(first, last, |changes, room, ahead, count| unsafe {
-            raw::croner_clock_of_posix(rule.as_ptr().cast(), rule.len(), first, last, changes, room, ahead, count)
+            raw::croner_clock_of_posix(
+                rule.as_ptr().cast(),
+                rule.len(),
+                first,
+                last,
+                changes,
+                room,
+                ahead,
+                count,
+            )
         })
     }
 
@@ -122,7 +151,12 @@ fn listed(
         }
         raw::done(status)?;
         changes.truncate(count);
-        return Ok(ClockTable { first, last, ahead, changes });
+        return Ok(ClockTable {
+            first,
+            last,
+            ahead,
+            changes,
+        });
     }
 }
 
@@ -155,14 +189,19 @@ impl<'t> TableTime<'t> {
             Ok(since) => i64::try_from(since.as_secs()).ok(),
             Err(before) => {
                 let until = before.duration();
-                i64::try_from(until.as_secs()).ok().map(|it| -it - i64::from(until.subsec_nanos() > 0))
+                i64::try_from(until.as_secs())
+                    .ok()
+                    .map(|it| -it - i64::from(until.subsec_nanos() > 0))
             }
         };
         TableTime::new(table, second.ok_or(CronError::InvalidTime)?)
     }
 
     pub(crate) fn at(&self, second: i64) -> TableTime<'t> {
-        TableTime { table: self.table, second }
+        TableTime {
+            table: self.table,
+            second,
+        }
     }
 
     /// The second since 1970-01-01T00:00:00 UTC.
@@ -207,7 +246,11 @@ fn date_of(day: i64) -> (i64, u32, u32) {
     let of_year = rest - (365 * year + year / 4 - year / 100);
     let from_march = (5 * of_year + 2) / 153;
     let day = of_year - (153 * from_march + 2) / 5 + 1;
-    let month = if from_march < 10 { from_march + 3 } else { from_march - 9 };
+    let month = if from_march < 10 {
+        from_march + 3
+    } else {
+        from_march - 9
+    };
     (year + era * 400 + i64::from(month <= 2), month as u32, day as u32)
 }
 
@@ -216,7 +259,12 @@ impl fmt::Display for TableTime<'_> {
         let (year, month, day, hour, minute, second) = self.civil();
         let sign = if self.offset() < 0 { '-' } else { '+' };
         let ahead = self.offset().unsigned_abs();
-        write!(f, "{year:04}-{month:02}-{day:02}T{hour:02}:{minute:02}:{second:02}{sign}{:02}:{:02}", ahead / 3600, ahead / 60 % 60)?;
+        write!(
+            f,
+            "{year:04}-{month:02}-{day:02}T{hour:02}:{minute:02}:{second:02}{sign}{:02}:{:02}",
+            ahead / 3600,
+            ahead / 60 % 60
+        )?;
         if ahead % 60 > 0 {
             write!(f, ":{:02}", ahead % 60)?;
         }

@@ -48,7 +48,10 @@ impl fmt::Display for Cron {
 
 impl Cron {
     pub(crate) fn read(text: &str, settings: u32) -> Cron {
-        Cron { text: text.to_owned(), settings }
+        Cron {
+            text: text.to_owned(),
+            settings,
+        }
     }
 
     /// The text as it was read.
@@ -74,8 +77,17 @@ impl Cron {
         let (clock, text) = (start.table().raw(), self.text.as_ptr().cast());
         let mut run = 0;
         // SAFETY: the pointers are of a text with its length, a clock and a number, all of which live through the call.
-        let status =
-            unsafe { search(text, self.text.len(), self.settings, &clock, start.second(), i32::from(inclusive), &mut run) };
+        let status = unsafe {
+            search(
+                text,
+                self.text.len(),
+                self.settings,
+                &clock,
+                start.second(),
+                i32::from(inclusive),
+                &mut run,
+            )
+        };
         raw::done(status)?;
         Ok(start.at(run))
     }
@@ -179,7 +191,16 @@ pub struct CronIterator<'c, 't> {
 
 impl<'c, 't> CronIterator<'c, 't> {
     fn new(cron: &'c Cron, time: TableTime<'t>, inclusive: bool, direction: Direction) -> CronIterator<'c, 't> {
-        CronIterator { cron, time, inclusive, direction, runs: [0; CHUNK], next: 0, count: 0, end: None }
+        CronIterator {
+            cron,
+            time,
+            inclusive,
+            direction,
+            runs: [0; CHUNK],
+            next: 0,
+            count: 0,
+            end: None,
+        }
     }
 
     /// Why it gave None; None itself before that, or where no run is left.
@@ -240,6 +261,9 @@ impl FusedIterator for CronIterator<'_, '_> {}
 
 impl fmt::Debug for CronIterator<'_, '_> {
     fn fmt(&self, f: &mut fmt::Formatter<'_>) -> fmt::Result {
-        f.debug_struct("CronIterator").field("cron", self.cron).field("time", &self.time).finish_non_exhaustive()
+        f.debug_struct("CronIterator")
+            .field("cron", self.cron)
+            .field("time", &self.time)
+            .finish_non_exhaustive()
     }
 }

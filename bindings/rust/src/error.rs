@@ -102,7 +102,9 @@ impl fmt::Display for CronError {
         match self {
             CronError::InvalidPattern(fault) => fault.fmt(f),
             CronError::TimeSearchLimitExceeded => f.write_str("no run is left in the years 1 to 4999"),
-            CronError::OutsideWindow => f.write_str("the start or the run lies outside the window of the clock's table"),
+            CronError::OutsideWindow => {
+                f.write_str("the start or the run lies outside the window of the clock's table")
+            }
             CronError::NotCalm => f.write_str("the clock changes too often or too far to be followed"),
             CronError::InvalidZone => f.write_str("there is no such time zone"),
             CronError::InvalidTime => f.write_str("the second lies outside the years -9996 to 9996"),

@@ -100,6 +100,8 @@ impl CronParserBuilder {
         let flags = 16 * u32::from(self.dom_and_dow)
             + 32 * u32::from(self.alternative_weekdays)
             + 64 * u32::from(self.sloppy_ranges);
-        CronParser { settings: seconds + year + flags }
+        CronParser {
+            settings: seconds + year + flags,
+        }
     }
 }

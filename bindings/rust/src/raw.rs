@@ -162,11 +162,25 @@ pub fn text_of(mut call: impl FnMut(*mut u8, usize, *mut usize) -> i32) -> (i32,
 
 /// Why a text is refused; `Ok` where it is accepted.
 pub fn explained(text: &str, settings: u32) -> Result<(), CronError> {
-    let mut fault =
-        Fault { size: std::mem::size_of::<Fault>(), begin: 0, end: 0, character: 0, field: -1, kind: 0 };
+    let mut fault = Fault {
+        size: std::mem::size_of::<Fault>(),
+        begin: 0,
+        end: 0,
+        character: 0,
+        field: -1,
+        kind: 0,
+    };
     // SAFETY: the pointers are of a text, a struct and a buffer that live through the call, with their lengths.
     let (status, message) = text_of(|words, room, length| unsafe {
-        croner_explain(text.as_ptr().cast(), text.len(), settings, &mut fault, words, room, length)
+        croner_explain(
+            text.as_ptr().cast(),
+            text.len(),
+            settings,
+            &mut fault,
+            words,
+            room,
+            length,
+        )
     });
     if status != REFUSED {
         return done(status);
