@@ -73,6 +73,16 @@ def is_left(status):
     return status == lib.OK or (status not in (lib.LIMIT, lib.OUTSIDE) and lib.fail(status))
 
 
+def by_wider(status, find, words, clocks):
+    """The status of a search, by further clocks where it is that the run lies outside."""
+    if status == lib.OUTSIDE:
+        for clock in clocks:
+            status = find(*words[:3], clock.reference, *words[4:])
+            if status != lib.OUTSIDE:
+                break
+    return status
+
+
 def most_of(count):
     """How many items a list may have."""
     if count is None:
@@ -161,27 +171,22 @@ class Cron:
     def next(self, start, *, inclusive=False):
         zone, second, has_fraction = start_of(start)
         # (a whole second that a fraction follows lies before the start)
-        return self._found(lib.find_next, zone, second, inclusive and not has_fraction, start.tzinfo, True)
+        inclusive, run = inclusive and not has_fraction, c_int64()
+        words = self._text, self._length, self._bits, zone.clock_at(second).reference, second, inclusive, byref(run)
+        status = lib.find_next(*words)
+        if status and not is_left(by_wider(status, lib.find_next, words, zone.wider(second, True))):
+            return None
+        return datetime.fromtimestamp(run.value, start.tzinfo)
 
     def previous(self, start, *, inclusive=False):
         zone, second, has_fraction = start_of(start)
         second = min(second, lib.LAST_SECOND)  # years after the last run
-        return self._found(lib.find_previous, zone, second, inclusive or has_fraction, start.tzinfo, False)
-
-    def _found(self, find, zone, second, inclusive, shown, is_forward):
-        run = c_int64()
-        status = find(self._text, self._length, self._bits, zone.clock_at(second).reference, second, inclusive, byref(run))
-        if status:
-            status = self._found_in_wider(find, zone, second, inclusive, run, is_forward, status)
-        return datetime.fromtimestamp(run.value, shown) if not status or is_left(status) else None
-
-    def _found_in_wider(self, find, zone, second, inclusive, run, is_forward, status):
-        """The status by wider clocks, where the run lies outside."""
-        for clock in zone.wider(second, is_forward) if status == lib.OUTSIDE else ():
-            status = find(*self._words(), clock.reference, second, inclusive, byref(run))
-            if status != lib.OUTSIDE:
-                break
-        return status
+        inclusive, run = inclusive or has_fraction, c_int64()
+        words = self._text, self._length, self._bits, zone.clock_at(second).reference, second, inclusive, byref(run)
+        status = lib.find_previous(*words)
+        if status and not is_left(by_wider(status, lib.find_previous, words, zone.wider(second, False))):
+            return None
+        return datetime.fromtimestamp(run.value, start.tzinfo)
 
     def runs(self, start, *, count=None, until=None, inclusive=False):
         zone, second, has_fraction = start_of(start)
