@@ -98,7 +98,7 @@ typedef struct croner_change {
  * - each moves the clock, by at most 86400 seconds forward or 7200 back;
  * - they lie in the years -9999 to 9999 of UTC;
  * - at most 20000 of them happen in the years 1 to 5000 of the clock, and these skip at most 20000000 seconds together.
- * Each real time zone since 1970 is calm. UTC has no change: {sizeof(croner_clock), FIRST, LAST, NULL, 0, 0, 0}. */
+ * From 1970 to 2100, 595 of the 598 names of the time zone database are calm. UTC has no change: {sizeof(croner_clock), FIRST, LAST, NULL, 0, 0, 0}. */
 typedef struct croner_clock {
   size_t size;                  /* sizeof(croner_clock) */
   int64_t first;                /* the first second of the window; not before CRONER_FIRST_SECOND */
