@@ -1,5 +1,6 @@
 /* Refuses memory to each function of croner.h: for each request of a call the call is made once where that request is refused. It has to end
-   with CRONER_OUT_OF_MEMORY and write nothing; and whatever it took, it has to give back. Linked with the archive, and with
+   with CRONER_OUT_OF_MEMORY and write nothing, or as where none is refused, since some memory is asked for ahead only; and whatever it took,
+   it has to give back. Linked with the archive, and with
    --wrap for malloc, realloc and free. Its word is the folder of the time zone files. */
 
 #include "croner.h"
@@ -100,23 +101,29 @@ static void check(int holds, const char *what, int which, long at) {
 }
 
 static void try_call(int which) {
-  static struct written before, after;
+  static struct written before, after, whole;
   refuse_at = requests = 0;
-  after = blank();
-  croner_status wanted = call(which, &after);
+  whole = blank();
+  croner_status wanted = call(which, &whole);
   long all = requests;
   check(open_blocks == 0 && all > 0, "a block is left", which, 0);
+  long lacking = 0;
   for (long at = 1; at <= all; at++) {
     refuse_at = at, requests = 0;
     before = after = blank();
     errno = 77;
     croner_status status = call(which, &after);
-    check(status == CRONER_OUT_OF_MEMORY, "another status", which, at);
     check(errno == 77, "errno", which, at);
-    check(memcmp(&before, &after, sizeof before) == 0, "it writes", which, at);
+    if (status == CRONER_OUT_OF_MEMORY) {
+      lacking++;
+      check(memcmp(&before, &after, sizeof before) == 0, "it writes", which, at);
+    } else {
+      check(status == wanted && memcmp(&whole, &after, sizeof whole) == 0, "another answer", which, at);
+    }
     check(open_blocks == 0, "a block is left", which, at);
     open_blocks = 0;
   }
+  check(lacking * 2 > all, "few requests are needed", which, 0);
   refuse_at = requests = 0;
   after = blank();
   check(call(which, &after) == wanted, "another status afterwards", which, 0);
