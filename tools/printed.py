@@ -51,7 +51,7 @@ def answer(script, page, printed, faults):
 
 def crates():
     """The names of the crates, lowest first, without those of the tests."""
-    names = re.findall(r"(?m)^(\w+):", (TOP / "crates.txt").read_text(encoding="utf-8"))
+    names = re.findall(r"(?m)^(\w+)[^:\n]*:", (TOP / "crates.txt").read_text(encoding="utf-8"))
     return [it for it in names if it not in TESTS]
 
 

@@ -1,7 +1,7 @@
 //! Jobs that are made of other jobs, and jobs at regular intervals.
 //!
-//! Each of them is [`Recurring`](croner::Recurring), so it can be a job of a scheduler, and a part of another of them. Its runs are
-//! those from year 3 to year 4998 in UTC.
+//! Each of them is [`Recurring`](croner::Recurring), so it can be a job of a scheduler, and a part of another of them. All but
+//! [`Named`] have only the runs from year 3 to year 4998 in UTC.
 #![tactic(auto)]
 
 mod clock;

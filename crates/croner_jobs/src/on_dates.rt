@@ -11,7 +11,8 @@ use croner::{CronDateTime, Direction, Recurring};
 
 /// A job that runs only on some dates: the date is the one that the clock shows at the run.
 ///
-/// A search goes from run to run until it finds one on a date that is kept.
+/// A search goes from run to run until it finds one on a date that is kept. After the last date of a `Dates::Only` it goes on to
+/// year 4998, which can take minutes for a job that runs often: put the job into a [`Within`](crate::Within) that ends there.
 ///
 /// ```
 /// let cron = Cron::from_str(alloc, "0 9 * * MON-FRI")?;
