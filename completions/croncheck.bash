@@ -9,18 +9,18 @@ _croncheck_zones() {
 # The names of warnings that may be allowed.
 _croncheck_warnings() {
     printf '%s\n' 'either-day uneven-step step-beyond range-down passed-over large-number whole-hour short-months gone never no-command
-        looks-like-field user percent continued control-byte carriage-return empty-item other-name preset no-zone not-expanded no-mail gap twice same-job'
+        looks-like-field user percent continued control-byte carriage-return empty-item other-name preset no-zone no-effect not-expanded no-mail gap twice same-job'
 }
 
 # The options of a command; without one those of check.
 _croncheck_options() {
-    local clock='--zone --from' span='--runs --until' output='--json --strict --same-job --allow' look='--width --color' kinds='--system --user --patterns --stdin-name --users --root'
+    local clock='--zone --from' span='-n --runs --until' output='--json --strict --same-job --allow' look='--width --color' kinds='--system --user --patterns --stdin-name --users --recursive --root'
     local settings='--alternative-weekdays --dom-and-dow --sloppy-ranges --seconds --year'
     case $1 in
         check) printf '%s\n' "$clock -f --format $output $kinds --language --for $settings $look -h --help" ;;
         show) printf '%s\n' "$clock $span --previous --often --show-zone $output $kinds --language --for $settings $look -h --help" ;;
         plan) printf '%s\n' "$clock $span --show-zone --commands --week --month --quiet --busy --together --ics --html --json --lasts --title --output --most-a-day $kinds $settings $look -h --help" ;;
-        next) printf '%s\n' "$clock $span --previous --often --show-zone --language --for $settings $look -h --help" ;;
+        next) printf '%s\n' "$clock $span --previous --often --show-zone --json --language --for $settings $look -h --help" ;;
         describe) printf '%s\n' "--language --for $settings $look -h --help" ;;
         *) printf '%s\n' "$clock -f --format $output $kinds --language --for $settings $look -h --help -V --version" ;;
     esac
@@ -37,8 +37,8 @@ _croncheck() {
     fi
     case $option in
         --zone | --show-zone) words="local UTC $(_croncheck_zones)" ;;
-        --from | --until) words=now ;;
-        --runs | --previous | --stdin-name | --width | --quiet | --busy | --lasts | --title) ;;
+        --from | --until) words='now tomorrow' ;;
+        -n | --runs | --previous | --stdin-name | --width | --quiet | --busy | --lasts | --title) ;;
         --most-a-day) words='all' ;;
         --output) return 0 ;;
         --root) compopt -o dirnames 2>/dev/null; return 0 ;;

@@ -631,12 +631,14 @@ def told_of(job, spans, start, until):
 
 ORDER = [
     "either-day", "uneven-step", "step-beyond", "range-down", "passed-over", "large-number", "whole-hour", "short-months", "gone", "never", "no-command", "looks-like-field", "user", "percent",
-    "continued", "control-byte", "no-newline", "no-zone", "not-expanded", "no-mail", "carriage-return", "empty-item", "other-name",
+    "continued", "control-byte", "no-newline", "no-zone", "no-effect", "not-expanded", "no-mail", "carriage-return", "empty-item", "other-name",
 ]
 # These stand after the others: what is told of a gap, and then what of a repeated range.
 CHANGES = ["gap", "twice"]
 FIELD_NAMES = ["seconds", "minutes", "hours", "days of the month", "months", "weekdays", "years"]
-# The most lines of a user's crontab, and the last one of the system's at which cron takes a job or a setting.
+# The variables by which other crons start jobs.
+OF_OTHERS = (b"RANDOM_DELAY", b"START_HOURS_RANGE", b"PERSISTENT", b"DELAY", b"BATCH")
+# The most lines of a user's crontab that isn't installed, and the last one at which cron itself takes a job or a setting.
 MOST_LINES, LAST_TAKEN = 10_000, 10_003
 HALF_DAY, BESIDE = DAY // 2, 3 * 3600
 
@@ -666,16 +668,20 @@ class Times:
         parts = parts_of_word(self.written["hours"], "hours")[0] if "hours" in self.written else []
         if len(parts) == 1 and not parts[0].is_star and parts[0].step == 1 and parts[0].first < parts[0].last:
             return False
-        is_each_date = len(self.days) == 31 and len(self.weekdays) == 7 and len(self.months) == 12
+        all_days, all_weekdays = len(self.days) == 31, len(self.weekdays) == 7
+        days = all_days and all_weekdays if self.has_to_match_both() else all_days or all_weekdays
+        is_each_date = days and len(self.months) == 12
         return len(self.minutes) == 60 and not (len(self.hours) == 24 and is_each_date)
+
+    def has_to_match_both(self):
+        """A day has to match both day fields, or one of them is a star."""
+        if self.is_pattern:
+            return self.job.days.is_star or self.job.weekdays.is_star or self.job.is_and
+        return self.job.needs_both
 
     def is_either_day(self):
         """Either day field alone decides, and they aren't both of each day. A field that names nothing decides nothing."""
-        if self.is_pattern:
-            job = self.job
-            if job.days.is_star or job.weekdays.is_star or job.is_and:
-                return False
-        elif self.job.needs_both or not self.days or not self.weekdays:
+        if self.has_to_match_both() or not self.is_pattern and not (self.days and self.weekdays):
             return False
         return not (len(self.days) == 31 and len(self.weekdays) == 7)
 
@@ -904,12 +910,11 @@ def is_not_expanded(value):
 
 
 def names_no_address(text):
-    """A setting of MAILTO, a name without quotes, whose value cron takes for no address: it has other bytes than an address, or another first one."""
+    """A setting of MAILTO whose value cron takes for no address: it has other bytes than an address, or another first one."""
     value = value_in(text)
     value = value[1:].split(value[:1])[0] if value[:1] in (b'"', b"'") else value
-    value = value.rstrip(SPACES)
-    is_mail = re.match(rb"[ \t]*MAILTO[ \t\n\v\f\r]*=", text) is not None
-    return is_mail and value != b"" and re.fullmatch(rb"[A-Za-z0-9][A-Za-z0-9@!:%.,_+=/-]*", value) is None
+    value = re.sub(rb"\A(['\"])(.*)\1\Z", rb"\2", value.rstrip(SPACES), flags=re.DOTALL)
+    return variable_of(text) == b"MAILTO" and value != b"" and re.fullmatch(rb"[A-Za-z0-9][A-Za-z0-9@!:%.,_+=/-]*", value) is None
 
 
 def is_sixth_field(user, command):
@@ -962,9 +967,10 @@ def warnings_of_line(text, is_fed, is_system, zone, start, users=None):
     found = ["no-newline"] if kind in ("setting", "job") and not is_fed else []
     if kind == "setting":
         found += ["no-zone"] if variable_of(text) in (b"CRON_TZ", b"TZ") else []
+        found += ["no-effect"] if variable_of(text) in OF_OTHERS else []
         found += ["not-expanded"] if is_not_expanded(value_in(text)) else []
         found += ["no-mail"] if names_no_address(text) else []
-        found += ["control-byte"] if hides(text) else []
+        found += ["control-byte"] if hides(re.sub(rb"\r\Z", b"", text)) else []
     if kind == "job":
         words = [job.schedule] if job.schedule.startswith(b"@") else re.split(rb"[ \t]+", job.schedule)
         ends = [re.sub(rb"\r\Z", b"", word) for word in words + [job.command]]
@@ -1008,7 +1014,7 @@ def warnings_of_pattern(text, zone, start):
     return in_order(found + warnings_of_times(Times(job, written, True), zone, start))
 
 
-def warnings_of_file(data, is_system, is_pattern, zone, start, users=None):
+def warnings_of_file(data, is_system, is_pattern, zone, start, users=None, is_installed=False):
     """The warnings of all lines of a file, one after another, and that of the file."""
     lines, found = lines_of(data), []
     for text, is_fed in lines:
@@ -1016,14 +1022,14 @@ def warnings_of_file(data, is_system, is_pattern, zone, start, users=None):
             found.append(warnings_of_pattern(text, zone, start))
         else:
             found.append(warnings_of_line(text, is_fed, is_system, zone, start, users))
-    return found, [] if is_pattern or first_too_many(lines, is_system) is None else ["many-lines"]
+    return found, [] if is_pattern or first_too_many(lines, is_system, is_installed) is None else ["many-lines"]
 
 
-def first_too_many(lines, is_system):
-    """The first line for which cron ignores a crontab as too long, from 0: of the system's it is a job or a setting."""
-    if not is_system:
+def first_too_many(lines, is_system, is_installed):
+    """The first line for which a crontab is too long, from 0: of the system's, and of one that is installed, it is a job or a setting."""
+    if not (is_system or is_installed):
         return MOST_LINES if len(lines) > MOST_LINES else None
-    late = (at for at, (text, _) in enumerate(lines) if at >= LAST_TAKEN and line_of(text, True)[0] not in ("blank", "comment"))
+    late = (at for at, (text, _) in enumerate(lines) if at >= LAST_TAKEN and line_of(text, is_system)[0] not in ("blank", "comment"))
     return next(late, None)
 
 
@@ -1035,7 +1041,8 @@ def data_of_row(row):
 def told_of_row(row):
     """The warnings of the lines of a row of crontab_warnings.txt."""
     data = data_of_row(row)
-    lines, file = warnings_of_file(data, row.get("system", False), row.get("patterns", False), row["zone"], row["from"], users_of_row(row))
+    kinds = row.get("system", False), row.get("patterns", False)
+    lines, file = warnings_of_file(data, *kinds, row["zone"], row["from"], users_of_row(row), row.get("installed", False))
     return [said for found in lines for said in found] + file
 
 
@@ -1043,9 +1050,10 @@ def counts_of_row(row):
     """How many lines of a row are refused, and how many are warned of. That of a file's length stands at the first line too many."""
     data, is_system, is_pattern = data_of_row(row), row.get("system", False), row.get("patterns", False)
     users = users_of_row(row)
-    lines, file = warnings_of_file(data, is_system, is_pattern, row["zone"], row["from"], users)
+    is_installed = row.get("installed", False)
+    lines, file = warnings_of_file(data, is_system, is_pattern, row["zone"], row["from"], users, is_installed)
     warned = {at for at, found in enumerate(lines) if found}
-    too_many = first_too_many(lines_of(data), is_system)
+    too_many = first_too_many(lines_of(data), is_system, is_installed)
     refused = sum(not is_pattern and is_refused(text, is_system, users) for text, _ in lines_of(data))
     return refused, len(warned | ({too_many} if file else set()))
 

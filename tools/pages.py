@@ -26,6 +26,15 @@ def cells(line):
     return [] if RULE.fullmatch(line) else [it.strip() for it in line.strip("|").split("|")]
 
 
+def torn_tables(lines):
+    """The numbers of the lines that begin a table without the row of dashes below its first one."""
+    shown = dict(prose(lines))
+    for number, line in shown.items():
+        begins = line.startswith("|") and not shown.get(number - 1, "").startswith("|")
+        if begins and not RULE.fullmatch(shown.get(number + 1, "") or "-x"):
+            yield number
+
+
 def paragraphs(lines):
     """The number of the first line of each paragraph, heading, item of a list and cell of a table, and its text in one line."""
     begin, text, last = 0, [], 0

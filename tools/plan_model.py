@@ -1,7 +1,7 @@
 """What a plan of crontabs is: a slow model that shares nothing with the library.
 
 What the lines of a crontab are, and when cron starts a job, it has from crontab_model.py: byte by byte by cron's own reader, and by
-cron's main loop. All else is said here from docs/CRONTAB.md ("A plan", "What a plan answers"), over lists of seconds: what a job is
+cron's main loop. All else is said here from docs/PLANNING.md, over lists of seconds: what a job is
 called; its starts in a span; moments, windows, sets of jobs, hours and dates. A start is the second at which cron starts a job, the
 job's place among those of the plan, and how many times. Seconds are counted from 1970-01-01T00:00:00 UTC, and wall seconds as if the
 zone's clock were UTC's. A span has a first second, and an end, which isn't in it.
@@ -30,8 +30,10 @@ class Job:
     def __init__(self, file, line, cron, above):
         self.file, self.line, self.cron = file, line, cron
         self.label = f"{file}:{line}"
-        self.title = above or title_of_command(cron.command) or cron.schedule
-        self.user, self.times, self.command = cron.user, cron.schedule, cron.command
+        self.has_comment, self.program = bool(above), title_of_command(cron.command) or cron.schedule
+        self.title = above or stem_of(file) or self.program
+        self.times, self.command = cron.schedule, cron.command
+        self.user = cron.user if re.fullmatch(rb"(?!-)[A-Za-z0-9_.@\\-]{1,32}", cron.user or b"") else None
 
     def key(self):
         """What tells it from a job that does something else, or at other times."""
@@ -47,17 +49,22 @@ class Files:
             self.take(name, data, is_system)
 
     def take(self, name, data, is_system):
-        above, refused, lines = b"", 0, crontab_model.lines_of(data)
+        above, refused, lines, first = [], 0, crontab_model.lines_of(data), len(self.jobs)
         for number, (text, _) in enumerate(lines, 1):
             kind, what = crontab_model.line_of(text, is_system)
             if kind == "job" and has_times(what):
-                self.jobs.append(Job(name, number, what, above))
+                self.jobs.append(Job(name, number, what, title_of_comment(above[0]) if len(above) == 1 else b""))
             elif kind in ("job", "refused") or kind == "setting" and warnings_of(text, is_system):
                 self.apart.append((name, number))
             refused += kind == "refused"
             self.counts[0] += kind == "job"
-            if not ALLOWS.match(text):
-                above = title_of_comment(text) if kind == "comment" else b""
+            if kind != "comment":
+                above = []
+            elif not ALLOWS.match(text) and text_of_comment(text):
+                above.append(text)
+        for job in self.jobs[first:]:
+            if not job.has_comment and stem_of(name) and len(self.jobs) > first + 1:
+                job.title = stem_of(name) + b": " + job.program
         self.counts[1] += refused
         is_unfed = bool(lines) and not lines[-1][1] and crontab_model.line_of(lines[-1][0], is_system)[0] not in ("blank", "comment")
         self.ignored += [name] if refused or is_unfed else []
@@ -76,10 +83,53 @@ def warnings_of(text, is_system):
     return crontab_model.warnings_of_line(text, True, is_system, "UTC0", 0)
 
 
+def stem_of(file):
+    """The name of a file in a folder cron.d, if cron takes it."""
+    found = re.fullmatch(r"(?:.*/)?cron\.d/([A-Za-z0-9_-]+)", file, re.DOTALL)
+    return found[1].encode() if found else b""
+
+
+def text_of_comment(text):
+    return text.lstrip(b" \t").lstrip(b"#").rstrip(b" \t\r\v\f").strip(b" \t")
+
+
 def title_of_comment(text):
-    title = text.lstrip(b" \t").lstrip(b"#").strip(b" \t")
-    is_other = crontab_model.is_setting(title) or begins_as_job(title) or re.split(rb"[ \t]+", title)[:2] == [b"m", b"h"]
-    return b"" if is_other else title
+    """The title of a comment that is the only one above a job."""
+    title = text_of_comment(text)
+    names_fields = re.split(rb"[ \t]+", title)[:2] == [b"m", b"h"]
+    return b"" if may_be_line(title) or names_fields or len(re.findall(rb"[^\x80-\xbf]", title)) > MOST_SIGNS else title
+
+
+def may_be_line(text):
+    """Whether a text may be a line that was taken out, which may hold a password."""
+    words = re.split(rb"[ \t]+", text)
+    return (
+        crontab_model.is_setting(text) or begins_as_job(text) or bool(SETS.search(text)) or any(re.match(rb"-p(?s:.)", it) for it in words)
+        or any(is_nickname(it) for it in words) or any(are_fields(words[at:at + 5]) for at in range(len(words)))
+    )
+
+
+# `=` behind a name; or alone behind a name and blanks, with something behind it
+SETS = re.compile(rb"[A-Za-z0-9_](?:=|[ \t]+=(?!=)[ \t]*[^ \t])")
+NUMBER = re.compile(rb"[0-9*]")
+MOST_SIGNS = 60
+
+
+def is_nickname(word):
+    name = word.partition(b"@")[2]
+    return name.lower() in (*crontab_model.NICKNAMES, b"reboot") or name == b"every"
+
+
+def are_fields(words):
+    """Whether words are the five fields of a job, of which the first may end a word of another kind."""
+    if len(words) < 5 or not NUMBER.search(words[0]):
+        return False
+    months, weekdays = (rb"(?i)(?:[0-9*]|(?:%s)(?![A-Za-z0-9/-])|(?:%s)-(?:%s)(?![A-Za-z0-9/]))" % ((names.encode(),) * 3) for names in (MONTH_NAMES, DAY_NAMES))
+    return all(NUMBER.match(it) for it in words[1:3]) and bool(re.match(months, words[3])) and bool(re.match(weekdays, words[4]))
+
+
+MONTH_NAMES = "jan|feb|mar|apr|may|jun|jul|aug|sep|oct|nov|dec"
+DAY_NAMES = "sun|mon|tue|wed|thu|fri|sat"
 
 
 def begins_as_job(text):
@@ -88,19 +138,50 @@ def begins_as_job(text):
     return text.startswith(b"@") or word == b"*" or bool(re.fullmatch(rb"[0-9*,/-]*[0-9][0-9*,/-]*", word))
 
 
-def after_doubled(command, sign):
-    """What follows a sign that stands twice, the first one of a command, where no quote stands before it."""
-    front, _, rest = command.partition(sign * 2)
-    return b"" if re.search(rb"[\"'`\\]", front) or sign in front else rest.lstrip(b" \t")
+GUARDS = (b"cd", b"test", b"[", b"[[", b"which", b"command", b"exit", b"sleep")
+OPENINGS = (b"if", b"then", b"{", b"(", b"!")
+# what stands in quotes, or behind a backslash, or is one byte of a command; then what ends it
+COMMAND = re.compile(rb"(?:\\(?s:.)|'[^']*'|\"(?:\\(?s:.)|[^\"\\])*\"|`(?:\\(?s:.)|[^`\\])*`|(?!;|&&|\|\|)[^'\"`\\])*(?:;|&&|\|\|)[ \t;&|]*")
+RUNNERS = (b"run-parts", b"php", b"python", b"perl", b"sh", b"bash", b"dash")
+
+
+def word_of(text):
+    return re.match(rb"[^ \t;&|<>()%]*", text)[0]
+
+
+def program_of(text):
+    """A command from its program on."""
+    while True:
+        word = re.split(rb"[ \t]", text)[0]
+        if word in OPENINGS or re.fullmatch(rb"[A-Za-z0-9_]+=[^'\"\\`$(){}]*", word):
+            text = text[len(word):].lstrip(b" \t")
+            continue
+        ended = COMMAND.match(text) if word in GUARDS else None
+        if not ended or ended.end() == len(text):
+            return text
+        text = text[ended.end():]
+
+
+def path_of(text):
+    """The path of a program, or of what it runs."""
+    word = word_of(text)
+    if name_in(word).rstrip(b"0123456789.") not in RUNNERS:
+        return word
+    words = re.split(rb"[ \t]+", text)[1:]
+    while words and re.fullmatch(rb"-[^'\"\\`$(){}]*", words[0]):
+        del words[0]
+    file = word_of(words[0]) if words else b""
+    return file if re.fullmatch(rb"[^'\"\\`$(){}=]*", file) and re.search(rb"[/.]", file) else word
+
+
+def name_in(path):
+    return path.rpartition(b"/")[2] or path
 
 
 def title_of_command(command):
-    """The last part of the path of the program's first word; nothing where it has an equals sign."""
-    command = command.strip(b" \t")
-    if re.split(rb"[ \t]", command)[0] in (b"cd", b"test", b"[", b"command"):
-        command = after_doubled(command, b"&") or after_doubled(command, b"|") or command
-    word = re.split(rb"[ \t]", command)[0]
-    return b"" if b"=" in word else word.rpartition(b"/")[2] or word
+    """What the program of a command is called; nothing where its word has an equals sign."""
+    path = path_of(program_of(command.strip(b" \t")))
+    return b"" if b"=" in path else name_in(path)
 
 
 # ---- bytes as they are shown

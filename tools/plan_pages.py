@@ -1,4 +1,4 @@
-"""The parts of a plan's page beside the model: what stands below each heading, from docs/CRONTAB.md ("A plan as a file").
+"""The parts of a plan's page beside the model: what stands below each heading, from docs/PLANNING.md and docs/FORMATS.md.
 
 Each part is read off the page's elements (plan_readers.py) and compared with what it is to be, worked out from the plan (plan_model.py); the
 words for the times of a job, and what is found of a line, are handed in with the case.

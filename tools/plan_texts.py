@@ -1,4 +1,4 @@
-"""The texts of a plan, from docs/CRONTAB.md ("A plan", "What a plan answers") and its examples: the list, and what is answered to --week,
+"""The texts of a plan, from docs/PLANNING.md and its examples: the list, and what is answered to --week,
 --month, --quiet, --busy and --together. Each is a list of blocks, between which an empty line stands, and a block is a list of lines.
 """
 import model

@@ -11,7 +11,8 @@ TOP = Path(__file__).resolve().parent.parent
 BEGIN = re.compile(r"<!-- printed by tools/(\w+) -->")
 END = "<!-- end of what it prints -->"
 TESTS = {"croner_backends", "croner_rows", "cronreplay", "cronbench", "croner_examples"}
-ITEM = re.compile(r"\s*(pub )?(?:pub\(\w+\) )?(?:const |unsafe )*(fn|struct|enum|trait|impl|mod)\b(.*)")
+ITEM = re.compile(r"\s*(pub )?(?:pub\(\w+\) )?(?:const |unsafe |extern \S+ )*(fn|struct|enum|trait|impl|mod)\b(.*)")
+EXPORT = "#[unsafe(no_mangle)]"
 
 
 def parts(lines):
@@ -99,12 +100,13 @@ def after_parameters(text):
 
 def public_lines(file):
     """The lines of a file that belong to public items, comments left out, each with the item's path. Public is all of a `pub` trait and
-    of an `impl` of a trait; and what is `pub` itself, in modules that are, or of a type or with a name that another module shows."""
+    of an `impl` of a trait; what is `pub` itself, in modules that are, or of a type or with a name that another module shows; and what C can
+    call."""
     crate = file.relative_to(TOP / "crates").parts[0]
     (modules, is_open), shown = modules_of(file), shown_by(crate)
-    whole, own, kind, owner, path = False, False, "", "", ""
+    whole, own, kind, owner, path, before = False, False, "", "", "", ""
     for line in file.read_text(encoding="utf-8").splitlines():
-        match = ITEM.match(line)
+        match, is_export, before = ITEM.match(line), before == EXPORT, line
         if match:
             head = after_parameters(match[3])
             name = re.match(r"\W*(\w*)", head)[1]
@@ -116,6 +118,7 @@ def public_lines(file):
             elif line.startswith(" "):
                 own, path = whole or match[1] is not None and is_seen, "::".join([*modules, owner, name])
             else:
-                own, path = match[1] is not None and (is_open or name in shown), "::".join([*modules, name])
+                own = is_export or match[1] is not None and (is_open or name in shown)
+                path = "::".join([*modules, name])
         if own and not line.strip().startswith("//"):
             yield path, line

@@ -265,6 +265,27 @@ class Model:
         self.jobs[key] = yield from self.standing(pattern, zone, second)
         return self.told(self.given_back(job), self.jobs[key])
 
+    def replace_job(self, key, pattern):
+        """Another job where the one of the id stands."""
+        if key not in self.jobs:
+            return ["NoJob", self.patterns[pattern]]
+        job = self.jobs[key]
+        other = Standing(self.patterns[pattern], job.zone, job.position, self.refusals[pattern])
+        yield from other.search(self.searches)
+        self.jobs[key] = other
+        return self.told(self.given_back(job), other)
+
+    def into_jobs(self):
+        """All jobs, which are gone then; the next id stays."""
+        jobs = [[key, self.given_back(job)] for key, job in sorted(self.jobs.items())]
+        self.jobs = {}
+        return jobs
+
+    def pause_until(self, now, most):
+        """How long a program sleeps: until the next wake-up, at most so many seconds."""
+        wake_up = self.next_wake_up()
+        return most if wake_up is None else min(max(wake_up - now, 0), most)
+
     def remove(self, key):
         job = self.jobs.pop(key, None)
         return None if job is None else self.given_back(job)
@@ -290,6 +311,8 @@ class Model:
             return "NoJob"
         if now <= job.position:
             return "AlreadyThere"
+        if job.next == "Paused":
+            return "Paused"
         if not job.zone.holds(now):
             return "NotHeld"
         job.position = now
@@ -297,12 +320,38 @@ class Model:
             yield from job.search(self.searches)
         return self.told("Moved", job)
 
+    def skip_all_to(self, now):
+        """Each job that stands before now and isn't paused, where its zone holds now, stands at now. Whether one of these is stopped."""
+        behind = [key for key in sorted(self.jobs) if self.jobs[key].position < now and self.jobs[key].next != "Paused"]
+        moved = [key for key in behind if self.jobs[key].zone.holds(now)]
+        for key in moved:
+            yield from self.skip_to(key, now)
+        return any(self.jobs[key].is_stopped() for key in moved)
+
     def ask_again(self, key):
         job = self.jobs.get(key)
-        if job is None or not job.is_stopped():
+        if job is None or not job.is_stopped() or job.next == "Paused":
             return "NotStopped"
         yield from job.search(self.searches)
         return "StillStopped" if job.is_stopped() else "GoesOn"
+
+    def pause(self, key):
+        if key in self.jobs:
+            self.jobs[key].next = "Paused"
+        return key in self.jobs
+
+    def resume(self, key, second):
+        """The job goes on from where it stands, or from a later second."""
+        job = self.jobs.get(key)
+        if job is None:
+            return "NoJob"
+        if job.next != "Paused":
+            return "NotPaused"
+        if not job.zone.holds(max(job.position, second)):
+            return "NotHeld"
+        job.position = max(job.position, second)
+        yield from job.search(self.searches)
+        return self.told("GoesOn", job)
 
     def take_due(self, now, most):
         given = []
@@ -324,6 +373,9 @@ class Model:
 
     def stopped(self):
         return [[key, self.jobs[key].next] for key in sorted(self.jobs) if self.jobs[key].is_stopped()]
+
+    def stopped_len(self):
+        return sum(job.is_stopped() for job in self.jobs.values())
 
 
 # ---- what is drawn
@@ -435,6 +487,17 @@ class List:
         if (yield from self.call("remove", key)) is not None:
             self.out.append((self.patterns.index(job.text), self.zones.index(job.zone), job.position))
 
+    def take_apart(self):
+        """As at a restart: all jobs are taken out and most added again where they stood."""
+        out = {key: (self.patterns.index(job.text), self.zones.index(job.zone), job.position) for key, job in self.model.jobs.items()}
+        yield from self.call("into_jobs")
+        for key in sorted(out):
+            if self.draw.random() < 0.9:
+                yield from self.call("add", *out[key])
+
+    def sleep(self):
+        yield from self.call("pause_until", self.now + self.draw.choice([0, 0, -HOUR, 1, HOUR]), self.draw.choice([0, 60, HOUR, DAY, 2**64 - 1]))
+
     def put_back(self):
         if self.out:
             yield from self.call("add", *self.out.pop())
@@ -447,14 +510,39 @@ class List:
             near = draw.randint(*job.zone.held)
         yield from self.call("skip_to", key, near)
 
+    def skip_all(self):
+        """To the time, to an earlier one, or some hours ahead; where little is held also to a second of what is."""
+        draw = self.draw
+        near = self.now + draw.choice([0, 0, 0, -HOUR, -DAY, draw.randint(0, 8 * HOUR)])
+        spans = [zone.held for zone in self.zones if zone.held is not None]
+        if spans and draw.random() < 0.3:
+            near = draw.choice(draw.choice(spans)) + draw.choice([0, 0, -1, 1])
+            near = min(near, self.now + DAY)
+        yield from self.call("skip_all_to", near)
+
     def ask_again(self):
         """Of a job that is stopped mostly, where there is one."""
         draw, stopped = self.draw, [key for key, _ in self.model.stopped()]
         yield from self.call("ask_again", draw.choice(stopped) if stopped and draw.random() < 0.8 else self.key())
 
+    def pause(self):
+        yield from self.call("pause", self.key())
+
+    def resume(self):
+        """Of a paused job mostly, where there is one: from the time on, from an earlier or a later one, or from an end of what is held."""
+        draw, model_jobs = self.draw, self.model.jobs
+        paused = [key for key in sorted(model_jobs) if model_jobs[key].next == "Paused"]
+        key = draw.choice(paused) if paused and draw.random() < 0.9 else self.key()
+        near = self.now + draw.choice([0, 0, -HOUR, -DAY, HOUR, draw.randint(-DAY, DAY)])
+        job = model_jobs.get(key)
+        if job is not None and job.zone.held is not None and draw.random() < 0.3:
+            near = draw.choice(job.zone.held) + draw.choice([0, 0, -1, 1])
+        yield from self.call("resume", key, near)
+
     def look(self):
         yield from self.call("standings")
         yield from self.call("stopped")
+        yield from self.call("stopped_len")
 
     def draw_calls(self):
         draw = self.draw
@@ -462,10 +550,11 @@ class List:
             yield from self.call("add", *self.job())
         acts = [self.take] * 10 + [lambda: self.call("add", *self.job())] * 2 + [self.remove, self.put_back, self.skip]
         acts += [lambda: self.call("replace", self.key(), *self.job()), self.ask_again]
+        acts += [lambda: self.call("replace_job", self.key(), draw.randrange(len(self.patterns))), self.sleep]
         acts += [lambda: self.call("add_from", *self.job()), self.take_latest]
-        acts += [lambda: self.call("next_wake_up")] * 2 + [self.look]
+        acts += [lambda: self.call("next_wake_up")] * 2 + [self.look, self.skip_all, self.pause] + [self.resume] * 2
         for _ in range(self.length):
-            yield from draw.choice(acts)()
+            yield from (self.take_apart() if draw.random() < 0.01 else draw.choice(acts)())
         yield from self.call("take_due", self.now, 30 if self.length < 30 else 3_000)
         yield from self.look()
 

@@ -141,8 +141,9 @@ croner_status croner_previous(const char *text, size_t length, uint32_t settings
 /* The runs after a start (with `inclusive` 1: from it on) and up to `until`, in order, each once and none left out; at most `room`, which is
  * at most 1000000. *count is how many were written. With INT64_MAX as `until` the listing goes on to the window's end.
  *
- * CRONER_OK: `room` runs were written, or the next run comes after `until`.
- * CRONER_LIMIT, CRONER_OUTSIDE: fewer than `room` were written; that is the status of the next one. */
+ * CRONER_OK: `room` runs were written, or the next run comes after `until`, which doesn't lie after the window.
+ * CRONER_OUTSIDE: `until` lies after the window, and so does the next run; fewer than `room` were written.
+ * CRONER_LIMIT: no more run is left; fewer than `room` were written. */
 croner_status croner_runs(const char *text, size_t length, uint32_t settings, const croner_clock *clock, int64_t start,
                           int32_t inclusive, int64_t until, int64_t *runs, size_t room, size_t *count);
 
@@ -248,8 +249,9 @@ typedef struct croner_start {
 /* The seconds after a start and up to `until` at which Debian's cron starts a line's job, if cron runs all the time; at most `room`, which
  * is at most 1000000. They come in order, each once and none left out. *count is how many were written.
  *
- * CRONER_OK: `room` were written, or the next one comes after `until`.
- * CRONER_LIMIT, CRONER_OUTSIDE: fewer than `room` were written; that is the status of the next one.
+ * CRONER_OK: `room` were written, or the next one comes after `until`, which doesn't lie after the window.
+ * CRONER_OUTSIDE: `until` lies after the window, and so does the next one; fewer than `room` were written.
+ * CRONER_LIMIT: no more is left; fewer than `room` were written.
  * CRONER_REFUSED: the line is no job with times: see croner_crontab_line. */
 croner_status croner_crontab_starts(const char *line, size_t length, uint32_t table, const croner_clock *clock, int64_t start,
                                     int64_t until, croner_start *starts, size_t room, size_t *count);

@@ -4,6 +4,7 @@ from datetime import datetime, timezone
 from functools import total_ordering
 from itertools import repeat
 from math import inf
+from operator import index
 
 from . import _library as lib
 from ._zones import zone_of
@@ -87,9 +88,9 @@ def most_of(count):
     """How many items a list may have."""
     if count is None:
         return inf
-    if count < 0:
+    if index(count) < 0:
         raise ValueError(f"count is {count}")
-    return count
+    return index(count)
 
 
 def listed(find, zone, second, inclusive, until, most, kind):
@@ -171,7 +172,7 @@ class Cron:
     def next(self, start, *, inclusive=False):
         zone, second, has_fraction = start_of(start)
         # (a whole second that a fraction follows lies before the start)
-        inclusive, run = inclusive and not has_fraction, c_int64()
+        inclusive, run = bool(inclusive) and not has_fraction, c_int64()
         words = self._text, self._length, self._bits, zone.clock_at(second).reference, second, inclusive, byref(run)
         status = lib.find_next(*words)
         if status and not is_left(by_wider(status, lib.find_next, words, zone.wider(second, True))):
@@ -181,7 +182,7 @@ class Cron:
     def previous(self, start, *, inclusive=False):
         zone, second, has_fraction = start_of(start)
         second = min(second, lib.LAST_SECOND)  # years after the last run
-        inclusive, run = inclusive or has_fraction, c_int64()
+        inclusive, run = bool(inclusive) or has_fraction, c_int64()
         words = self._text, self._length, self._bits, zone.clock_at(second).reference, second, inclusive, byref(run)
         status = lib.find_previous(*words)
         if status and not is_left(by_wider(status, lib.find_previous, words, zone.wider(second, False))):
@@ -190,7 +191,7 @@ class Cron:
 
     def runs(self, start, *, count=None, until=None, inclusive=False):
         zone, second, has_fraction = start_of(start)
-        bounds = inclusive and not has_fraction, until_of(until), most_of(count)
+        bounds = bool(inclusive) and not has_fraction, until_of(until), most_of(count)
         return times_of(listed(self._find_runs, zone, second, *bounds, c_int64), start.tzinfo)
 
     def _find_runs(self, *words):

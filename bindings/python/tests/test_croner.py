@@ -66,6 +66,15 @@ class Searches(unittest.TestCase):
         self.assertEqual(list(job.runs(before, until=after)), [run])
         self.assertEqual(list(job.runs(before, until=before)), [])
 
+    def test_any_value_is_true_or_false(self):
+        job, run = Cron("0 9 * * *"), datetime(2024, 7, 8, 9, tzinfo=UTC)
+        for value in (1, 2, -1, 1 << 32, 0.5, "yes", [0]):
+            found = job.next(run, inclusive=value), job.previous(run, inclusive=value), next(job.runs(run, inclusive=value))
+            self.assertEqual(found, (run,) * 3)
+        for value in (0, 0.0, "", [], None):
+            found = job.next(run, inclusive=value), job.previous(run, inclusive=value), next(job.runs(run, inclusive=value))
+            self.assertEqual(found, (run + timedelta(days=1), run - timedelta(days=1), run + timedelta(days=1)))
+
     def test_no_run_is_left(self):
         job, start = Cron("0 0 0 1 1 * 2020"), datetime(2024, 1, 1, tzinfo=PARIS)
         self.assertIsNone(job.next(start))
@@ -110,6 +119,9 @@ class Searches(unittest.TestCase):
         self.assertEqual(list(job.runs(end, until=start)), [])
         with self.assertRaises(ValueError):
             job.runs(start, count=-1)
+        for count in (1.5, "3"):
+            with self.assertRaisesRegex(TypeError, "integer"):
+                job.runs(start, count=count)
         years = list(Cron("0 0 29 2 *").runs(datetime(1890, 1, 1, tzinfo=PARIS), count=60))
         self.assertEqual([it.year for it in years], [it for it in range(1892, 2137, 4) if it not in (1900, 2100)][:60])
 

@@ -91,7 +91,7 @@ pub enum CronError {
     NotCalm,
     /// There is no such zone, or its file or rule can't be read.
     InvalidZone,
-    /// A second outside the years -9996 to 9996.
+    /// A second outside the years -9996 to 9996, or a window that ends before it begins.
     InvalidTime,
     /// There is no memory left.
     OutOfMemory,
@@ -106,8 +106,10 @@ impl fmt::Display for CronError {
                 f.write_str("the start or the run lies outside the window of the clock's table")
             }
             CronError::NotCalm => f.write_str("the clock changes too often or too far to be followed"),
-            CronError::InvalidZone => f.write_str("there is no such time zone"),
-            CronError::InvalidTime => f.write_str("the second lies outside the years -9996 to 9996"),
+            CronError::InvalidZone => f.write_str("there is no such time zone, or its file or rule can't be read"),
+            CronError::InvalidTime => {
+                f.write_str("a second lies outside the years -9996 to 9996, or a window ends before it begins")
+            }
             CronError::OutOfMemory => f.write_str("there is no memory left"),
         }
     }

@@ -185,6 +185,9 @@ fn clocks() {
     assert_eq!(ClockTable::fixed(90_000), Err(CronError::NotCalm));
     assert_eq!(ClockTable::of_posix("nothing", 0, 1), Err(CronError::InvalidZone));
     assert_eq!(ClockTable::of_tzif(b"TZif", 0, 1), Err(CronError::InvalidZone));
+    let turned = ClockTable::of_posix("UTC0", 10, 0).unwrap_err();
+    assert_eq!(turned, CronError::InvalidTime);
+    assert!(turned.to_string().ends_with("a window ends before it begins"));
     for name in ["", "/etc/passwd", "../zoneinfo/UTC", "Europe/Nowhere"] {
         assert_eq!(ClockTable::of_zone(name, 0, 1), Err(CronError::InvalidZone), "{name}");
     }

@@ -104,10 +104,9 @@ fn keep<'t, J: SchedulerJob + Recurring<TableTime<'t>>>(
 fn error_of(error: AddError) -> CronError {
     match error {
         AddError::OutOfMemory => CronError::OutOfMemory,
-        AddError::NoIdLeft
-        | AddError::PositionNotHeld
-        | AddError::SecondBeforeNotHeld
-        | AddError::NoJob => CronError::InvalidTime,
+        AddError::NoIdLeft | AddError::SecondBeforeNotHeld | AddError::NoJob => {
+            CronError::InvalidTime
+        }
     }
 }
 

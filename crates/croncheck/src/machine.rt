@@ -1,5 +1,9 @@
 //! The files of the machine, and its standard input.
 
+use crate::meant::is_line;
+use crate::regular::bytes_of;
+use crate::sorted::{Texts, texts_of};
+use croncheck_command::words::Call;
 use croncheck_files::fitness::{Facts, Keeper, Unfit, unfit_of};
 use croncheck_files::names::{Asked, STANDARD_INPUT};
 use croncheck_files::root::{Kept, Root, kept_in};
@@ -10,13 +14,16 @@ use crontab::line::Dialect;
 use either::{Either, Left, Right};
 use std::alloc::AllocError;
 use std::fs::File;
-use std::io::{BufReader, ErrorKind, IsTerminal, Stdin};
+use std::io::{BufReader, Cursor, ErrorKind, IsTerminal, Stdin};
 use std::os::unix::fs::MetadataExt;
 use std::path::Path;
 use std::{fs, io};
 
-/// What is read in place of a pipe or a device, on which a read could wait.
-const NOTHING: &str = "/dev/null";
+/// What is said of a symbolic link to a file that isn't there.
+const LOST_LINK: &str = "warning: a symbolic link to a file that isn't there: cron passes over it";
+
+/// What is said of what stands in a folder and is no file.
+const NO_FILE: &str = "a pipe, a socket or a device, and not read: name it to have it read";
 
 /// The files of the machine, and its standard input.
 #[derive(Drop)]
@@ -24,26 +31,31 @@ pub struct Machine<'r> {
     rt: &'r HostRuntime,
     // The crontabs whose owner, mode and links are looked at.
     root: &'r Root,
-    // Those of users are looked at, too.
-    has_spool: bool,
+    call: &'r Call<'r>,
     users: Option<Users<'r>>,
 }
 
 impl<'r> Machine<'r> {
-    /// The machine whose crontabs stand at the paths of `root`. Owner, mode and links are looked at for the crontabs of the system,
-    /// and with `has_spool` also for those of users, if these are known.
+    /// The machine whose crontabs stand at the paths of `root`. Owner, mode and links are looked at for the crontabs of the system; if the
+    /// call checks a machine, also for those of users, if these are known. A name that is a text of the call is the text of a file of that
+    /// name.
     pub fn new(
         rt: &'r HostRuntime,
         root: &'r Root,
-        has_spool: bool,
+        call: &'r Call<'r>,
         users: Option<Users<'r>>,
     ) -> Machine<'r> {
         Machine {
             rt,
             root,
-            has_spool,
+            call,
             users,
         }
+    }
+
+    /// Whether a machine is checked as a whole.
+    pub fn is_checked(&self) -> bool {
+        self.call.root.is_some()
     }
 
     /// Its users, if they are known.
@@ -82,8 +94,20 @@ impl<'r> Machine<'r> {
     fn keeper(&self, name: &str) -> Option<Keeper> {
         match kept_in(self.root, name)? {
             Kept::System => Some(Keeper::System),
-            Kept::Spool if self.has_spool => keeper_of(self.users?, Path::new(name).file_name()?),
+            Kept::Spool if self.is_checked() => keeper_of(
+                self.users?,
+                Path::new(name).file_name()?,
+            ),
             Kept::Spool => None,
+        }
+    }
+
+    // Whether a name is read as a text.
+    fn is_text(&self, name: &str) -> bool {
+        match texts_of(self.call) {
+            Texts::None => false,
+            Texts::Lines => is_line(self.rt, name),
+            Texts::Patterns => true,
         }
     }
 
@@ -94,10 +118,36 @@ impl<'r> Machine<'r> {
             (None, _) | (Some(_), None) => false,
         }
     }
+
+    // Whether a crontab of the machine is a symbolic link to a file that isn't there.
+    fn is_lost_link(&self, name: &str) -> bool {
+        self.keeper(name).is_some() && is_lost_link(self.rt, name)
+    }
+
+    // Whether a name is a word of the call.
+    fn is_named(&self, name: &str) -> bool {
+        self.call.files.iter().any(|file| file.word == name)
+    }
+
+    // The text of a file that is read whole, since the call doesn't name it; nothing of what isn't read, which standard error says. `None`: the
+    // file is read to its end, however long it is.
+    fn text_of(&self, name: &str) -> io::Result<Option<Vec<u8>>> {
+        if self.is_lost_link(name) {
+            announce(self.rt, name, LOST_LINK)?;
+            return Ok(Some(Vec::new(self.rt.alloc())));
+        }
+        if self.is_waited_for(name) {
+            return Ok(Some(Vec::new(self.rt.alloc())));
+        }
+        if self.is_named(name) {
+            return Ok(None);
+        }
+        Ok(Some(found_text(self.rt, name)?))
+    }
 }
 
 impl Sources for Machine<'_> {
-    type Reader = Either<BufReader<Stdin>, BufReader<File>>;
+    type Reader = Either<Cursor<Vec<u8>>, Either<BufReader<Stdin>, BufReader<File>>>;
 
     ghost holds = { λ machine name remaining. Unit {0} };
 
@@ -107,20 +157,26 @@ impl Sources for Machine<'_> {
 
     ghost lists = { λ machine name names. Unit {0} };
 
-    fn open(&self, name: &str) -> io::Result<Either<BufReader<Stdin>, BufReader<File>>> {
+    fn open(
+        &self,
+        name: &str,
+    ) -> io::Result<Either<Cursor<Vec<u8>>, Either<BufReader<Stdin>, BufReader<File>>>> {
+        if self.is_text(name) {
+            return Ok(Left(Cursor::new(fed_line(self.rt, name)?)));
+        }
         if name == STANDARD_INPUT {
             announce_typing(self.rt);
             let reader = BufReader::new(self.rt.alloc(), self.rt.stdin())?;
-            return Ok(Left(reader));
+            return Ok(Right(Left(reader)));
         }
-        let path = if self.is_waited_for(name) {
-            NOTHING
-        } else {
-            name
-        };
-        let opened = File::open(self.rt, path)?;
-        let reader = BufReader::new(self.rt.alloc(), opened)?;
-        Ok(Right(reader))
+        match self.text_of(name)? {
+            Some(text) => Ok(Left(Cursor::new(text))),
+            None => {
+                let opened = File::open(self.rt, name)?;
+                let reader = BufReader::new(self.rt.alloc(), opened)?;
+                Ok(Right(Right(reader)))
+            }
+        }
     }
 
     fn unfit(&self, name: &str) -> Option<Unfit> {
@@ -142,6 +198,25 @@ impl Sources for Machine<'_> {
             names.push(String::from_str(self.rt.alloc(), entry.file_name())?)?;
         }
         Ok(names)
+    }
+}
+
+// A line that is a word of the call, with its line feed.
+fn fed_line(rt: &HostRuntime, line: &str) -> Result<Vec<u8>, AllocError> {
+    let mut text = Vec::new(rt.alloc());
+    text.extend_from_slice(line.as_bytes())?;
+    text.push(b'\n')?;
+    Ok(text)
+}
+
+// The text of a file in a folder, whole; nothing of a pipe, a socket or a device.
+fn found_text(rt: &HostRuntime, name: &str) -> io::Result<Vec<u8>> {
+    match bytes_of(rt, name)? {
+        Some(text) => Ok(text),
+        None => {
+            announce(rt, name, NO_FILE)?;
+            Ok(Vec::new(rt.alloc()))
+        }
     }
 }
 
@@ -167,9 +242,27 @@ fn first_word(line: &[u8]) -> Option<&[u8]> {
     line.split(|byte| *byte == b':').next()
 }
 
-// What the file system says of a file, if there is one.
+// Whether a name is that of a symbolic link to a file that isn't there.
+fn is_lost_link(rt: &HostRuntime, name: &str) -> bool {
+    match (fs::symlink_metadata(rt, name), fs::metadata(rt, name)) {
+        (Ok(at_name), Err(error)) => at_name.is_symlink() && error.kind() == ErrorKind::NotFound,
+        _ => false,
+    }
+}
+
+// What the file system says of a file, if there is one. Of a link to a file that isn't there it says whose the link is; nothing else
+// keeps cron from it.
 fn facts_of(rt: &HostRuntime, name: &str) -> Option<Facts> {
     let at_name = fs::symlink_metadata(rt, name).ok()?;
+    if is_lost_link(rt, name) {
+        return Some(Facts {
+            link_owner: Some(at_name.uid()),
+            owner: 0,
+            is_regular: true,
+            mode: 0o600,
+            links: 1,
+        });
+    }
     let found = fs::metadata(rt, name).ok()?;
     let link_owner = if at_name.is_symlink() {
         Some(at_name.uid())

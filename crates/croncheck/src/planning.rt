@@ -1,7 +1,9 @@
 //! A plan, as texts or as a file.
 
+use crate::counted::Counted;
+use crate::replaced::replaces_source;
 use crate::saved::save;
-use crate::{Named, tell_in};
+use crate::telling::{Named, tell_counted};
 use croncheck_command::problem::Problem;
 use croncheck_command::words::{Call, LOCAL};
 use croncheck_planner::planner::page::PagePlanner;
@@ -42,6 +44,7 @@ pub fn plan(
     sources: Named<'_>,
 ) -> Result<u8, Problem> {
     let asked = plan_asked(rt, call)?;
+    refuse_to_replace(rt, call, sources)?;
     match asked.file {
         Some(FileAsked::Calendar(lasts)) => {
             write_calendar(rt, call, kinds, sources, asked, lasts)
@@ -50,8 +53,22 @@ pub fn plan(
         Some(FileAsked::Json) => write_json(rt, call, kinds, sources, asked),
         None => {
             let planner = planner_of(rt, call, kinds, asked)?;
-            tell_in(rt, kinds, sources, planner).map_err(Problem::Unwritten)
+            tell_counted(rt, kinds, sources, Counted::new(planner, true)).map_err(
+                Problem::Unwritten,
+            )
         }
+    }
+}
+
+// The error says that the file to which a plan is to be written is one of those that are read.
+fn refuse_to_replace(rt: &HostRuntime, call: &Call<'_>, sources: Named<'_>) -> Result<(), Problem> {
+    let Some(name) = call.output else {
+        return Ok(());
+    };
+    match replaces_source(rt, call, sources, name) {
+        Ok(false) => Ok(()),
+        Ok(true) => Err(Problem::OutputIsRead),
+        Err(_) => Err(Problem::OutOfMemory),
     }
 }
 
@@ -128,7 +145,7 @@ fn name_of_other_zone(
 // What took the files in a form, with what it told of them, and the status.
 #[derive(Drop)]
 struct Taken<'s, 't, F> {
-    sink: Sink<'s, 't, F, Vec<u8>>,
+    sink: Sink<'s, 't, Counted<F>, Vec<u8>>,
     status: u8,
 }
 
@@ -141,14 +158,15 @@ fn take_files<'s, 't, F: Form + Drop>(
 ) -> Result<Taken<'s, 't, F>, Problem> {
     let terms = kinds.of(Dialect::User);
     let mut notes = rt.stderr();
-    let mut sink = Sink::new(terms, form, Vec::new(rt.alloc()));
+    let mut sink = Sink::new(terms, Counted::new(form, true), Vec::new(rt.alloc()));
     let status = tell_files(sources.machine, kinds, sources.files, &mut sink, &mut notes).map_err(
         Problem::Unwritten,
     )?;
     notes
         .write_all(sink.out().as_slice())
         .map_err(Problem::Unwritten)?;
-    if status == UNREAD {
+    let has_none = sink.form().files() == 0 && !sources.machine.is_checked();
+    if status == UNREAD || has_none {
         return Err(Problem::Unread);
     }
     Ok(Taken { sink, status })
@@ -175,7 +193,7 @@ fn write_calendar(
         lasts,
     };
     let terms = kinds.of(Dialect::User);
-    let Ok(file) = taken.sink.form().calendar(&terms, naming) else {
+    let Ok(file) = taken.sink.form().form().calendar(&terms, naming) else {
         return Err(Problem::OutOfMemory);
     };
     write_text(rt, call, file.text.as_str())?;
@@ -205,7 +223,12 @@ fn write_page(
     };
     let terms = kinds.of(Dialect::User);
     let title = call.title.unwrap_or(TITLE);
-    let Ok(text) = taken.sink.form().page(&terms, title, ignored.as_slice()) else {
+    let Ok(text) = taken
+        .sink
+        .form()
+        .form()
+        .page(&terms, title, ignored.as_slice())
+    else {
         return Err(Problem::OutOfMemory);
     };
     write_text(rt, call, text.as_str())?;
@@ -255,7 +278,7 @@ fn write_json(
         return Err(Problem::OutOfMemory);
     };
     let terms = kinds.of(Dialect::User);
-    let Ok(text) = taken.sink.form().json(&terms, read_first.as_slice()) else {
+    let Ok(text) = taken.sink.form().form().json(&terms, read_first.as_slice()) else {
         return Err(Problem::OutOfMemory);
     };
     write_text(rt, call, text.as_str())?;

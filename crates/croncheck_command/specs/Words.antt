@@ -1,15 +1,24 @@
 -- The words of a call.
-use Rattle.std.specs.Prelude.{◌≡◌, ◌≤◌, ⊤, ℕ, Bool, true, false, ◌&&◌, Option, Some, None}
+use Rattle.std.specs.Prelude.{◌≡◌, ◌≤◌, ◌≤ℤ◌, pos, ⊤, ℕ, Bool, true, false, ◌&&◌, Option, Some, None}
 use Rattle.croncheck_command.specs.declared.words.Span.{Span}
 use Rattle.croncheck_command.specs.declared.words.Span.TheVariants as spans
 use Rattle.croncheck_command.specs.declared.words.Verb.{Verb}
 use Rattle.croncheck_command.specs.declared.words.Verb.TheVariants as verbs
+use Rattle.croncheck_command.specs.declared.words.when.When.{When}
+use Rattle.croncheck_command.specs.declared.words.when.When.TheVariants as whens
 use Rattle.croncheck_moments.specs.Moment.{IsNamed}
+
+-- what `--from` and `--until` may name: a moment, the next date, a time of day, or up to 1000 years later
+abbrev pub IsNamedWhen : When → Type 0
+IsNamedWhen (whens.Moment moment) = IsNamed moment
+IsNamedWhen whens.Tomorrow = ⊤
+IsNamedWhen (whens.Clock hour minute) = ((pos 0 ≤ℤ hour) × (hour ≤ℤ pos 23)) × ((pos 0 ≤ℤ minute) × (minute ≤ℤ pos 59))
+IsNamedWhen (whens.Later seconds) = seconds ≤ 31_536_000_000
 
 -- what may be asked for: up to 1000 runs, or those up to a moment that a word names
 abbrev pub IsInRange : Span → Type 0
 IsInRange (spans.Count n) = n ≤ 1000
-IsInRange (spans.Until moment) = IsNamed moment
+IsInRange (spans.Until until) = IsNamedWhen until
 
 -- how many runs before the start may be asked for: none, or up to 1000
 abbrev pub AreInRange : Option ℕ → Type 0

@@ -21,6 +21,10 @@ pub enum Problem {
     Users(io::Error),
     /// The folder of the machine that is to be checked can't be read.
     Root(io::Error),
+    /// The folder of `--root` can't be read: this says which, and why.
+    NoRoot(String),
+    /// A folder of `--recursive` can't be listed.
+    Folder(io::Error),
     /// The zone's clock never shows the date and time of `--from`.
     SkippedFrom,
     /// The zone's clock never shows the date and time of `--until`.
@@ -29,6 +33,8 @@ pub enum Problem {
     UntilBeforeFrom,
     /// The reports can't be written.
     Unwritten(io::Error),
+    /// The file to which a plan is to be written is one that is read.
+    OutputIsRead,
     /// The file of a plan can't be written.
     Unsaved(io::Error),
     /// A file of the call couldn't be read, of which was told already; so no file of a plan is
@@ -43,12 +49,15 @@ impl Problem {
     ghost use Rattle.std.specs.Prelude.{◌≡◌};
 
     /// The status of the process: 2 if the zone's clock never shows the moment of `--from` or
-    /// `--until`, or if `--until` is earlier than `--from`; else 3.
+    /// `--until`, if `--until` is earlier than `--from`, or if the file of `--output` is one that is read; else 3.
     pub fn status(&self) -> u8
         ensures { result ≡ status_of_problem self.now }
     {
         match self {
-            Problem::SkippedFrom | Problem::SkippedUntil | Problem::UntilBeforeFrom => 2,
+            Problem::SkippedFrom
+            | Problem::SkippedUntil
+            | Problem::UntilBeforeFrom
+            | Problem::OutputIsRead => 2,
             Problem::Words(_)
             | Problem::Zone(_)
             | Problem::NoZone(_)
@@ -56,6 +65,8 @@ impl Problem {
             | Problem::Now(_)
             | Problem::Users(_)
             | Problem::Root(_)
+            | Problem::NoRoot(_)
+            | Problem::Folder(_)
             | Problem::Unwritten(_)
             | Problem::Unsaved(_)
             | Problem::Unread
@@ -70,13 +81,14 @@ impl fmt::Display for Problem {
             Problem::Words(error) => write!(f, "the words of the call: {error}"),
             Problem::Zone(error) => write!(
                 f,
-                "the zone: {error}; --zone takes a name of the database, as Europe/Paris, a POSIX rule, as CET-1CEST,M3.5.0,M10.5.0/3, or local: the zone that TZ names, or without TZ that of /etc/localtime"
+                "the zone: {error}; --zone takes a name of the database such as Europe/Paris, a POSIX rule such as CET-1CEST,M3.5.0,M10.5.0/3, or local: the zone that TZ names, or without TZ that of /etc/localtime"
             ),
-            Problem::NoZone(text) => f.write_str(text.as_str()),
+            Problem::NoZone(text) | Problem::NoRoot(text) => f.write_str(text.as_str()),
             Problem::Clock(reason) => write_reason(f, *reason),
             Problem::Now(error) => write!(f, "the machine's clock: {error}"),
             Problem::Users(error) => write!(f, "the file of --users: {error}"),
-            Problem::Root(error) => write!(f, "the folder of --root: {error}"),
+            Problem::Root(error) => write!(f, "the crontabs below the folder of --root: {error}"),
+            Problem::Folder(error) => write!(f, "a folder of --recursive: {error}"),
             Problem::SkippedFrom => {
                 f.write_str("--from: the zone's clock never shows this date or time")
             }
@@ -85,6 +97,9 @@ impl fmt::Display for Problem {
             }
             Problem::UntilBeforeFrom => f.write_str("--until lies before --from"),
             Problem::Unwritten(error) => write!(f, "the output: {error}"),
+            Problem::OutputIsRead => f.write_str(
+                "--output: this call reads the file that it would replace. Write another name",
+            ),
             Problem::Unsaved(error) if error.kind() == io::ErrorKind::AlreadyExists => f.write_str(
                 "--output: its name with .part at the end is there already: another call is writing it, or was stopped while it wrote; in that case remove it",
             ),

@@ -1,30 +1,31 @@
 //! The words of a call.
 ghost use Rattle.std.specs.Prelude.{◌≡◌, ◌≤◌, IfOk};
-ghost use Rattle.croncheck_moments.specs.Moment.{moment_text, IsNamed};
 ghost use Rattle.std.specs.List.{list_all};
 ghost use Rattle.croncheck_files.specs.Names.{asked_seen, dialect_of};
-ghost use Rattle.croncheck_command.specs.Words.{IsInRange, AreInRange, TellsRuns, is_of_utc};
+ghost use Rattle.croncheck_command.specs.Words.{IsInRange, AreInRange, IsNamedWhen, TellsRuns, is_of_utc};
 ghost use Rattle.crontab.specs.Line.{are_patterns};
 
 mod options;
 mod planning;
+mod when;
 
 use clap::ArgMatches;
 use clap::error::ErrorKind;
 use croncheck_files::names::{
     Asked, Places, STANDARD_INPUT, asked_file_at, asked_files, last_place_before,
 };
-use croncheck_moments::moment::{Moment, read_moment};
 use croncheck_output::escaped::push_shown;
 use croncheck_report::allowed::{ALLOWABLE, nearest_name};
 use croncheck_report::settings::Tongue;
+use croncheck_typed::line::may_be_zone;
 use croner::parser::{CronParser, Seconds, Year};
 use croner_presets::Preset;
 use cronplan_forms::PlanAsked;
-use jiff::civil::Date;
-use options::{program, verb_of, verb_with, verbs_with};
+use options::{option_meant_by, program, verb_of, verb_with, verbs_with};
 use planning::{output, plan_asked, title};
 use std::alloc::{AllocError, Global};
+pub use when::When;
+use when::{FROM, UNTIL, when_of};
 
 /// The last line of what is told if the words of a call are misused.
 pub const USAGE: &str =
@@ -38,11 +39,6 @@ MIT licence, in the file LICENSE";
 pub fn version() -> &'static str {
     VERSION.split(',').next().unwrap_or(VERSION)
 }
-
-/// How the options of moments are written.
-const FROM: &str = "--from <DATETIME|DATE|@SECONDS|now>";
-
-const UNTIL: &str = "--until <DATETIME|DATE|@SECONDS|now>";
 
 /// The most runs of a line that are asked for.
 const MOST_RUNS: u32 = 1_000;
@@ -61,14 +57,8 @@ pub const LOCAL: &str = "local";
 /// UTC as a rule.
 const UTC: &str = "UTC0";
 
-/// How the word of a moment is written.
-const MOMENT_FORM: &str = "write 2024-10-27T00:00:00, 2024-10-27, @1729980000 or now";
-
-/// What is told of a date that the calendar doesn't have.
-const NO_DATE: &str = "there is no such date: look at its month and its day";
-
-/// How many bytes the form of a date has.
-const DATE_LENGTH: usize = 10;
+/// The findings that can't be allowed.
+const NOT_ALLOWABLE: [&str; 3] = ["no-newline", "many-lines", "file-name"];
 
 /// The place of standard input if no file is named: after all words.
 const AFTER_ALL: usize = usize::MAX;
@@ -92,7 +82,7 @@ pub struct Call<'w> {
     /// calendar of a plan.
     pub show_zone: Option<&'w str>,
     /// Where runs are listed from.
-    pub from: Moment,
+    pub from: When,
     /// Up to where runs are listed: one run with [`Verb::Check`] and none with [`Verb::Describe`], which both tell of no runs.
     pub span: Span,
     /// How many runs up to `from` are told too, from 1 to 1000, if any are. Only with [`Verb::Show`] and [`Verb::Next`].
@@ -120,6 +110,8 @@ pub struct Call<'w> {
     /// The folder below which the files of a machine stand, if a machine is checked; then no file is named. Only with [`Verb::Check`],
     /// [`Verb::Show`] and [`Verb::Plan`].
     pub root: Option<&'w str>,
+    /// The folders among the files are entered, and so are those in them. Only with [`Verb::Check`], [`Verb::Show`] and [`Verb::Plan`].
+    pub is_recursive: bool,
     /// The files, in order: standard input if none is named and no machine is checked. Empty with [`Verb::Next`] and [`Verb::Describe`].
     pub files: Vec<Asked<'w>>,
     /// The patterns. Empty unless with [`Verb::Next`] or [`Verb::Describe`].
@@ -176,7 +168,7 @@ pub enum Color {
 pub enum Span {
     /// This many runs, from 0 to 1000.
     Count(u32),
-    Until(Moment),
+    Until(When),
 }
 
 /// Why there is nothing to check.
@@ -200,7 +192,7 @@ impl From<AllocError> for NoCall {
 /// A call without a verb is one of [`Verb::Check`].
 pub fn read_call<'w>(alloc: Global, words: &'w [String]) -> Result<Call<'w>, NoCall>
     ensures span { IfOk result (λ call. IsInRange call.span) }
-    ensures from { IfOk result (λ call. IsNamed call.from) }
+    ensures from { IfOk result (λ call. IsNamedWhen call.from) }
     ensures told { IfOk result (λ call. TellsRuns call.verb call.span) }
     ensures previous { IfOk result (λ call. AreInRange call.previous) }
 {
@@ -214,7 +206,7 @@ pub fn read_call<'w>(alloc: Global, words: &'w [String]) -> Result<Call<'w>, NoC
 // What matches of the program ask for: those of a verb, or of `check`, which stands for none.
 fn call_with_verb<'w>(alloc: Global, matches: &ArgMatches<'w>) -> Result<Call<'w>, NoCall>
     ensures span { IfOk result (λ call. IsInRange call.span) }
-    ensures from { IfOk result (λ call. IsNamed call.from) }
+    ensures from { IfOk result (λ call. IsNamedWhen call.from) }
     ensures told { IfOk result (λ call. TellsRuns call.verb call.span) }
     ensures previous { IfOk result (λ call. AreInRange call.previous) }
 {
@@ -262,6 +254,16 @@ fn told_of_unknown_option(alloc: Global, message: &str) -> Result<NoCall, AllocE
         Some(verbs) => Ok(told_by_text(format!(in alloc;
             "error: {option} is an option of {verbs}: write such a command in front, as croncheck {verb} {option}\n"
         ))),
+        None => told_of_other_option(alloc, option, message),
+    }
+}
+
+// What is told of an option that no verb has: the one that does it, if other programs name that so.
+fn told_of_other_option(alloc: Global, option: &str, message: &str) -> Result<NoCall, AllocError> {
+    match option_meant_by(option) {
+        Some(other) => Ok(told_by_text(format!(in alloc;
+            "error: there is no option {option}: write {other}\n"
+        ))),
         None => Ok(NoCall::Misused(head_of_message(alloc, message)?)),
     }
 }
@@ -283,11 +285,11 @@ fn head_of_message(alloc: Global, message: &str) -> Result<String, AllocError> {
 // What the matches of a verb ask for.
 fn call_of<'w>(alloc: Global, verb: Verb, matches: &ArgMatches<'w>) -> Result<Call<'w>, NoCall>
     ensures span { IfOk result (λ call. IsInRange call.span) }
-    ensures from { IfOk result (λ call. IsNamed call.from) }
+    ensures from { IfOk result (λ call. IsNamedWhen call.from) }
     ensures told { IfOk result (λ call. TellsRuns call.verb call.span) }
     ensures previous { IfOk result (λ call. AreInRange call.previous) }
 {
-    let from = moment(alloc, FROM, matches.get_str("from").unwrap_or("now"))?;
+    let from = when_of(alloc, FROM, matches.get_str("from").unwrap_or("now"))?;
     let span = span_of(alloc, verb, matches)?;
     let previous = previous_of(alloc, matches)?;
     let named = named_words(alloc, verb, matches)?;
@@ -311,6 +313,7 @@ fn call_of<'w>(alloc: Global, verb: Verb, matches: &ArgMatches<'w>) -> Result<Ca
         allowed: named.allowed,
         users: matches.get_str("users"),
         root: matches.get_str("root"),
+        is_recursive: matches.get_flag("recursive"),
         files: named.files,
         patterns: named.patterns,
         plan,
@@ -337,6 +340,9 @@ fn named_words<'w>(
     let width = width(alloc, matches)?;
     let allowed = allowed_names(alloc, matches)?;
     let patterns = patterns(alloc, matches)?;
+    if let Some(zone) = zone_among(patterns.as_slice()) {
+        return Err(told_of_zone(alloc, zone));
+    }
     Ok(NamedWords {
         files,
         width,
@@ -365,6 +371,11 @@ fn told_of_name_not_allowed(alloc: Global, name: &str) -> NoCall {
 }
 
 fn not_allowed_text(alloc: Global, name: &str) -> Result<String, AllocError> {
+    if NOT_ALLOWABLE.contains(&name) {
+        return format!(in alloc;
+            "error: --allow: {name} can't be allowed, since cron ignores the whole file or the line because of it: fix the file\n"
+        );
+    }
     let nearest = nearest_name(alloc, name.as_bytes())?;
     let mut text = String::from_str(alloc, "error: invalid value '")?;
     push_shown(&mut text, name.as_bytes())?;
@@ -382,6 +393,18 @@ fn patterns<'w>(alloc: Global, matches: &ArgMatches<'w>) -> Result<Vec<&'w str>,
         patterns.extend_from_slice(given)?;
     }
     Ok(patterns)
+}
+
+// The first of some patterns that is the name of a zone.
+fn zone_among<'w>(patterns: &[&'w str]) -> Option<&'w str> {
+    patterns.iter().copied().find(|word| may_be_zone(word))
+}
+
+/// What is told of a word that is the name of a zone, and stands where a pattern or a file does.
+pub fn told_of_zone(alloc: Global, zone: &str) -> NoCall {
+    told_by_text(format!(in alloc;
+        "error: '{zone}' is neither a pattern nor a file: for the zone of that name, write --zone {zone}\n"
+    ))
 }
 
 // The files of a verb, if it has files.
@@ -505,7 +528,7 @@ fn read_span(alloc: Global, matches: &ArgMatches<'_>) -> Result<Span, NoCall>
 {
     match matches.get_str("until") {
         Some(word) => {
-            let until = moment(alloc, UNTIL, word)?;
+            let until = when_of(alloc, UNTIL, word)?;
             Ok(Span::Until(until))
         }
         None => read_count(alloc, matches.get_str("runs").unwrap_or("3")),
@@ -537,48 +560,6 @@ fn previous_of(alloc: Global, matches: &ArgMatches<'_>) -> Result<Option<u32>, N
             )),
         },
         None => Ok(None),
-    }
-}
-
-// The moment that the word of an option names.
-fn moment(alloc: Global, option: &str, word: &str) -> Result<Moment, NoCall>
-    ensures named { IfOk result IsNamed }
-    ensures text { IfOk result (λ moment. moment_text moment ≡ word.now) }
-{
-    match read_moment(alloc, word)? {
-        Some(moment) => Ok(moment),
-        None => Err(told_of_misuse(alloc, option, word, form_of_moment(word))),
-    }
-}
-
-// What is told of a word that names no moment: that the date doesn't exist, where it has the form of one.
-fn form_of_moment(word: &str) -> &'static str {
-    let date = word.split('T').next().unwrap_or(word);
-    if has_form_of_date(date.as_bytes()) && date.parse::<Date>().is_err() {
-        NO_DATE
-    } else {
-        MOMENT_FORM
-    }
-}
-
-// Whether a text has the form `YYYY-MM-DD`, of any digits.
-fn has_form_of_date(text: &[u8]) -> bool {
-    if text.len() != DATE_LENGTH {
-        return false;
-    }
-    for k in 0..DATE_LENGTH {
-        if !fits_at(k, text[k]) {
-            return false;
-        }
-    }
-    true
-}
-
-// Whether a byte may stand at a place of that form.
-fn fits_at(place: usize, byte: u8) -> bool {
-    match place {
-        4 | 7 => byte == b'-',
-        _ => byte.is_ascii_digit(),
     }
 }
 

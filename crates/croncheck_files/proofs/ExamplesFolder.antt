@@ -4,7 +4,7 @@ use Rattle.std.specs.Path.{path_file_name, path_parent, split_last_component, tr
 use Rattle.crontab.specs.declared.line.Dialect.TheVariants as dialects
 use Rattle.croncheck_files.specs.declared.folder.Sort.TheVariants as sorts
 use Rattle.croncheck_files.specs.declared.folder.Treatment.TheVariants as treatments
-use Rattle.croncheck_files.specs.Folder.{is_left_out, is_passed_over, is_named_otherwise, sort_of, treatment_of, path_in, entry_of}
+use Rattle.croncheck_files.specs.Folder.{is_left_out, is_passed_over, is_misnamed, is_named_otherwise, sort_of, treatment_of, path_in, entry_of}
 use Rattle.croncheck_files.specs.Names.{File, dialect_of}
 
 -- ---- names
@@ -26,6 +26,24 @@ of_the_system_with_a_dot = refl
 
 of_the_system : is_passed_over dialects.System (codes "e2scrub_all-2") ≡ false
 of_the_system = refl
+
+-- a file in `cron.d` that is named itself, and one in another folder
+named_with_a_dot : is_misnamed (codes "deploy/cron.d/backup.sh") ≡ true
+unfolding path_file_name path_parent split_last_component trim_trailing rsplit_once
+named_with_a_dot = refl
+
+named_without_one : is_misnamed (codes "/etc/cron.d/e2scrub_all-2") ≡ false
+unfolding path_file_name path_parent split_last_component trim_trailing rsplit_once
+named_without_one = refl
+
+named_in_another_folder : is_misnamed (codes "cron.d/old/backup.sh") ≡ false
+unfolding path_file_name path_parent split_last_component trim_trailing rsplit_once
+named_in_another_folder = refl
+
+-- nothing is said of it in its folder either
+a_hidden_one_is_named : is_misnamed (codes "cron.d/.placeholder") ≡ false
+unfolding path_file_name path_parent split_last_component trim_trailing rsplit_once
+a_hidden_one_is_named = refl
 
 -- a user `first.last` has a crontab of that name
 of_a_user_with_a_dot : is_passed_over dialects.User (codes "first.last") ≡ false
@@ -95,6 +113,22 @@ a_hidden_folder = refl
 
 a_folder_in_it : treatment_of true (entry_of folder (codes "old")) (codes "old") ≡ treatments.NotEntered
 a_folder_in_it = refl
+
+-- the folder of the users' crontabs
+abbrev spool : File
+spool = record { word = codes "/var/spool/cron/crontabs"; name = codes "/var/spool/cron/crontabs"; kind = Some dialects.User }
+
+left_by_crontab : treatment_of false (entry_of spool (codes "tmp.Ab3x9Z")) (codes "tmp.Ab3x9Z") ≡ treatments.Silent
+unfolding path_file_name path_parent split_last_component trim_trailing rsplit_once
+left_by_crontab = refl
+
+of_a_user_whose_name_begins_so : treatment_of false (entry_of spool (codes "tmp.anna")) (codes "tmp.anna") ≡ treatments.Read
+unfolding path_file_name path_parent split_last_component trim_trailing rsplit_once
+of_a_user_whose_name_begins_so = refl
+
+named_so_in_another_folder : treatment_of false (entry_of (record folder { word = codes "drafts" }) (codes "tmp.Ab3x9Z")) (codes "tmp.Ab3x9Z") ≡ treatments.Read
+unfolding path_file_name path_parent split_last_component trim_trailing rsplit_once
+named_so_in_another_folder = refl
 
 the_table_of_anacron : treatment_of false (entry_of folder (codes "anacrontab")) (codes "anacrontab") ≡ treatments.NoCrontab
 unfolding path_file_name path_parent split_last_component trim_trailing rsplit_once

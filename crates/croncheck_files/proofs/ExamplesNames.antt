@@ -2,7 +2,7 @@
 use Rattle.std.proofs.Common.{◌≡◌, [], ◌∷◌, true, false, Some, None, codes, refl}
 use Rattle.std.specs.Path.{path_file_name, path_parent, split_last_component, trim_trailing, rsplit_once}
 use Rattle.crontab.specs.declared.line.Dialect.TheVariants as dialects
-use Rattle.croncheck_files.specs.Names.{Options, is_of_system, last_place_before, kind_at, dialect_of, name_shown}
+use Rattle.croncheck_files.specs.Names.{Options, is_of_system, is_installed, last_place_before, kind_at, dialect_of, name_shown}
 
 -- ---- by their names
 
@@ -43,6 +43,22 @@ a_name_that_ends_so = refl
 without_a_folder : is_of_system (codes "crontab") ≡ false
 unfolding path_file_name path_parent split_last_component trim_trailing rsplit_once
 without_a_folder = refl
+
+installed : is_installed (codes "/var/spool/cron/crontabs/ann") ≡ true
+unfolding path_file_name path_parent split_last_component trim_trailing rsplit_once
+installed = refl
+
+installed_on_another_machine : is_installed (codes "mnt/var/spool/cron/crontabs/ann") ≡ true
+unfolding path_file_name path_parent split_last_component trim_trailing rsplit_once
+installed_on_another_machine = refl
+
+in_a_folder_of_crontabs : is_installed (codes "crontabs/ann") ≡ false
+unfolding path_file_name path_parent split_last_component trim_trailing rsplit_once
+in_a_folder_of_crontabs = refl
+
+in_the_folder_above : is_installed (codes "/var/spool/cron/ann") ≡ false
+unfolding path_file_name path_parent split_last_component trim_trailing rsplit_once
+in_the_folder_above = refl
 
 -- ---- by the options in front of them
 

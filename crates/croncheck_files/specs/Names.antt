@@ -25,6 +25,10 @@ abbrev pub is_of_system : List ℕ → Bool
 is_of_system path =
     is_text (codes "cron.d") (folder_name path) || (is_text (codes "etc") (folder_name path) && is_text (codes "crontab") (path_file_name path))
 
+-- a crontab that `crontab` has installed stands in a folder `crontabs` of a folder `cron`, as /var/spool/cron/crontabs
+abbrev pub is_installed : List ℕ → Bool
+is_installed path = is_text (codes "crontabs") (folder_name path) && is_text (codes "cron") (option_and_then folder_name (path_parent path))
+
 -- without an option a crontab is the system's by its name, and else a user's
 abbrev pub dialect_by_name : List ℕ → Dialect
 dialect_by_name path = if is_of_system path then dialects.System else dialects.User

@@ -1,10 +1,12 @@
 //! What is read of a folder: cron's rules for the names in /etc/cron.d.
-ghost use Rattle.std.specs.Prelude.{◌≡◌, option_map, IfOk, string_bytes};
+ghost use Rattle.std.specs.Prelude.{◌≡◌, drop, option_map, IfOk, string_bytes};
+ghost use Rattle.std.specs.Char.{is_ascii_alphanumeric};
+ghost use Rattle.std.specs.List.{list_all};
 ghost use Rattle.std.specs.Path.{path_bytes};
-ghost use Rattle.croncheck_files.specs.Folder.{is_left_out, is_leftover, is_name_byte, is_name_of_cron, is_scripts, is_named_otherwise, is_no_crontab, is_passed_over, sort_of, treatment_of, path_in};
+ghost use Rattle.croncheck_files.specs.Folder.{is_left_out, is_leftover, is_unfinished, is_silent, is_name_byte, is_name_of_cron, is_told_as_misnamed, is_misnamed, is_scripts, is_named_otherwise, is_no_crontab, is_passed_over, sort_of, treatment_of, path_in};
 ghost use Rattle.croncheck_files.specs.Names.{asked_seen};
 
-use crate::names::{Asked, folder_name, is_text};
+use crate::names::{Asked, folder_name, is_installed, is_text};
 use crontab::line::Dialect;
 use std::alloc::{AllocError, Global};
 use std::path::Path;
@@ -23,7 +25,7 @@ pub enum Sort {
 /// What becomes of a file, or of a folder, that stands in a folder.
 #[derive(Clone, Copy, Drop)]
 pub enum Treatment {
-    /// Nothing is said of it: its name begins with a dot, or it is a leftover of dpkg or of an editor.
+    /// Nothing is said of it: its name begins with a dot, or it is a leftover of dpkg, of an editor or of `crontab`.
     Silent,
     /// It is a folder, which isn't entered.
     NotEntered,
@@ -54,7 +56,7 @@ pub fn sort_of(is_folder: bool, file: &Asked<'_>) -> Sort
 pub fn treatment_of(is_folder: bool, file: &Asked<'_>, name: &str) -> Treatment
     ensures { result ≡ treatment_of is_folder (asked_seen file.now) name.now }
 {
-    if is_left_out(name.as_bytes()) {
+    if is_silent(file, name.as_bytes()) {
         Treatment::Silent
     } else if is_folder {
         Treatment::NotEntered
@@ -96,7 +98,38 @@ fn is_scripts(name: Option<&str>) -> bool
         || is_text(name, "cron.yearly")
 }
 
-// Whether nothing is said of a file of this name.
+// Whether nothing is said of a file of this name, which stands in a folder.
+fn is_silent(file: &Asked<'_>, name: &[u8]) -> bool
+    ensures { result ≡ is_silent (asked_seen file.now) name.now }
+{
+    is_left_out(name) || is_unfinished(name) && is_installed(file.name)
+}
+
+// Whether a file of this name is what a broken-off `crontab` leaves beside the crontabs that it has installed.
+fn is_unfinished(name: &[u8]) -> bool
+    ensures { result ≡ is_unfinished name.now }
+{
+    name.starts_with("tmp.".as_bytes())
+        && (name.len() == 10 && are_alphanumeric(without_front(name)))
+}
+
+// What stands after the first four bytes of a name.
+fn without_front(name: &[u8]) -> &[u8]
+    ensures { result.now ≡ drop 4 name.now }
+{
+    match name {
+        [_, _, _, _, rest @ ..] => rest,
+        _ => &[],
+    }
+}
+
+fn are_alphanumeric(text: &[u8]) -> bool
+    ensures { result ≡ list_all is_ascii_alphanumeric text.now }
+{
+    text.iter().all(|byte| byte.is_ascii_alphanumeric())
+}
+
+// Whether nothing is said of a file of this name, in whatever folder it stands.
 fn is_left_out(name: &[u8]) -> bool
     ensures { result ≡ is_left_out name.now }
 {
@@ -127,6 +160,25 @@ fn is_name_of_cron(name: &[u8]) -> bool
     ensures { result ≡ is_name_of_cron name.now }
 {
     name.iter().all(|byte| is_name_byte(*byte))
+}
+
+/// Whether cron ignores a crontab of the system for its name: it stands in a folder `cron.d`, and its name has another sign than letters,
+/// digits, `_` and `-`. Not so for a name of which nothing is said in a folder either.
+pub fn is_misnamed(name: &str) -> bool
+    ensures { result ≡ is_misnamed name.now }
+{
+    let path = Path::new(name);
+    is_text(folder_name(path), "cron.d") && is_told_as_misnamed(path.file_name())
+}
+
+// Whether a file of this name in a folder `cron.d` is told, and cron ignores it for the name.
+fn is_told_as_misnamed(name: Option<&str>) -> bool
+    ensures { result ≡ is_told_as_misnamed (option_map (λ name. name.now) name.entry) }
+{
+    match name {
+        Some(name) => !is_left_out(name.as_bytes()) && !is_name_of_cron(name.as_bytes()),
+        None => false,
+    }
 }
 
 // Whether a byte may stand in the name of a crontab of the system.

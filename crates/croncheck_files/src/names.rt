@@ -1,7 +1,7 @@
 //! Which files a call asks for, and how each is read: by the options in front of it, and else by its name.
-ghost use Rattle.std.specs.Prelude.{◌≡◌, get_or, map, option_map, IfOk};
-ghost use Rattle.std.specs.Path.{path_bytes};
-ghost use Rattle.croncheck_files.specs.Names.{places_seen, asked_seen, is_text, folder_name, is_of_system, dialect_by_name, last_place_before, later_place, kind_at, name_shown, asked_file_at, asked_files, dialect_of};
+ghost use Rattle.std.specs.Prelude.{◌≡◌, get_or, map, option_map, option_and_then, IfOk};
+ghost use Rattle.std.specs.Path.{path_bytes, path_parent};
+ghost use Rattle.croncheck_files.specs.Names.{places_seen, asked_seen, is_text, folder_name, is_of_system, is_installed, dialect_by_name, last_place_before, later_place, kind_at, name_shown, asked_file_at, asked_files, dialect_of};
 
 use crontab::line::Dialect;
 use std::alloc::{AllocError, Global};
@@ -154,6 +154,21 @@ pub fn is_of_system(name: &str) -> bool
     let path = Path::new(name);
     let folder = folder_name(path);
     is_text(folder, "cron.d") || is_text(folder, "etc") && is_text(path.file_name(), "crontab")
+}
+
+/// Whether a crontab of this name is one that `crontab` has installed: it is one in a folder `crontabs` of a folder `cron`.
+pub fn is_installed(name: &str) -> bool
+    ensures { result ≡ is_installed name.now }
+{
+    let path = Path::new(name);
+    is_text(folder_name(path), "crontabs") && is_text(outer_folder_name(path), "cron")
+}
+
+// The name of the folder in which the folder of a file stands.
+fn outer_folder_name(path: Path<'_>) -> Option<&str>
+    ensures { option_map (λ name. name.now) result ≡ option_and_then folder_name (path_parent (path_bytes path.entry)) }
+{
+    folder_name(path.parent()?)
 }
 
 // The name of the folder in which a file stands.

@@ -1,5 +1,6 @@
 -- Worked rows of what is found of lines and of files, computed from the definitions.
 use Rattle.std.proofs.Common.{◌≡◌, refl, true, false, ℕ, Bool, List, [], ◌∷◌, None, Some, map}
+use Rattle.std.specs.Path.{path_file_name, path_parent, split_last_component, trim_trailing, rsplit_once}
 use Rattle.croner_presets.specs.declared.difference.Difference.TheVariants as differences
 use Rattle.croner_presets.specs.declared.preset.Preset.TheVariants as presets
 use Rattle.croncheck_warnings.specs.declared.warnings.Warning.TheVariants as warnings
@@ -59,7 +60,11 @@ a_blank_line = refl
 
 -- a setting that says a zone or doesn't, and nothing else of which something is found
 abbrev setting_of : Bool → SettingReport
-setting_of is_zone = record { is_zone = is_zone; is_not_expanded = false; sends_no_mail = false; is_hiding = false }
+setting_of is_zone = record { is_zone = is_zone; has_no_effect = false; is_not_expanded = false; sends_no_mail = false; is_hiding = false }
+
+a_setting_without_effect : findings_of_line (codes "DELAY=5") (reports.Setting (record (setting_of false) { has_no_effect = true }) true)
+    ≡ finding_without_field severities.Warning (codes "no-effect") (record { start = 0; end = 7 }) ∷ []
+a_setting_without_effect = refl
 
 a_zone : findings_of_line (codes " TZ=UTC") (reports.Setting (setting_of true) true) ≡ finding_without_field severities.Warning (codes "no-zone") (extent 1 7) ∷ []
 a_zone = refl
@@ -106,23 +111,39 @@ abbrev broken : File
 broken = record (unread (codes "f")) { has_refused = true; is_unfed = true }
 
 a_good_file : findings_of_file dialects.User 3 (unread (codes "f")) ≡ []
+unfolding path_file_name path_parent split_last_component trim_trailing rsplit_once
 a_good_file = refl
 
 all_of_a_file : names_of (findings_of_file dialects.User 10_001 broken)
     ≡ codes "refused-line" ∷ codes "no-newline" ∷ codes "many-lines" ∷ []
+unfolding path_file_name path_parent split_last_component trim_trailing rsplit_once
 all_of_a_file = refl
 
 -- of the system the number of the lines says nothing
 many_comments_of_the_system : findings_of_file dialects.System 30_000 (unread (codes "f")) ≡ []
+unfolding path_file_name path_parent split_last_component trim_trailing rsplit_once
 many_comments_of_the_system = refl
 
 a_late_job_of_the_system : names_of (findings_of_file dialects.System 10_004 (record (unread (codes "f")) { has_late = true })) ≡ codes "many-lines" ∷ []
+unfolding path_file_name path_parent split_last_component trim_trailing rsplit_once
 a_late_job_of_the_system = refl
+
+a_late_job_of_a_user : names_of (findings_of_file dialects.User 3 (record (unread (codes "spool/cron/crontabs/ann")) { has_late = true }))
+    ≡ codes "many-lines" ∷ []
+unfolding path_file_name path_parent split_last_component trim_trailing rsplit_once
+a_late_job_of_a_user = refl
 
 -- what the file system says stands first
 another_users_file : names_of (findings_of_file dialects.System 3 (record broken { unfit = Some unfits.Owner }))
     ≡ codes "file-owner" ∷ codes "refused-line" ∷ codes "no-newline" ∷ []
+unfolding path_file_name path_parent split_last_component trim_trailing rsplit_once
 another_users_file = refl
+
+-- one in `cron.d` whose lines are read, though cron ignores it for its name: that stands first
+a_misnamed_file : names_of (findings_of_file dialects.System 3 (record (unread (codes "cron.d/backup.sh")) { has_refused = true }))
+    ≡ codes "file-name" ∷ codes "refused-line" ∷ []
+unfolding path_file_name path_parent split_last_component trim_trailing rsplit_once
+a_misnamed_file = refl
 
 -- cron doesn't read a file of patterns
 a_file_of_patterns : findings_of_file dialects.Patterns 3 broken ≡ []

@@ -1,1 +1,2 @@
 mod ExamplesFindings
+mod Pushed

@@ -31,7 +31,7 @@ use Rattle.croncheck_warnings.specs.declared.warnings.OtherWarning.TheVariants a
 use Rattle.croncheck_warnings.specs.declared.warnings.Warning.{Warning}
 use Rattle.croncheck_changes.specs.Changes.{is_warned, name_of}
 use Rattle.croncheck_files.specs.declared.fitness.Unfit.{Unfit}
-use Rattle.croncheck_report.specs.FileSeen.{File, has_many_lines, many_lines_text}
+use Rattle.croncheck_report.specs.FileSeen.{File, is_misnamed_as, has_many_lines, many_lines_text}
 use Rattle.croncheck_files.specs.Fitness.{unfit_name, unfit_text}
 use Rattle.croncheck_findings.specs.Found.{is_told_below}
 use Rattle.croncheck_warnings.specs.declared.presets.Reading.{Reading}
@@ -193,12 +193,14 @@ findings_of_job line j =
 abbrev pub of_setting : List ℕ → OtherWarning → Found
 of_setting line w = finding_without_field severities.Warning (other_name w) (content_extent line)
 
--- what is found of a setting: that bytes hide others, that it says a zone, that its value isn't expanded, and that it is no address of mail
+-- what is found of a setting: that bytes hide others, that it says a zone, that it has no effect, that its value isn't expanded, and that it is
+-- no address of mail
 abbrev pub findings_of_setting : List ℕ → SettingReport → List Found
 findings_of_setting line s =
     only_if s.is_hiding (of_setting line others.ControlByte)
     ++ (only_if s.is_zone (of_setting line others.NoZone)
-    ++ (only_if s.is_not_expanded (of_setting line others.NotExpanded) ++ only_if s.sends_no_mail (of_setting line others.NoMail)))
+    ++ (only_if s.has_no_effect (of_setting line others.NoEffect)
+    ++ (only_if s.is_not_expanded (of_setting line others.NotExpanded) ++ only_if s.sends_no_mail (of_setting line others.NoMail))))
 
 -- what is found of a line with a report: nothing of a good one. Where it is refused that stands first, after it its notes, and what another
 -- program takes of it
@@ -246,7 +248,7 @@ findings_of_crontab dialect lines f =
     said_of_unfit f.unfit
     ++ (said_if f.has_refused (reason (codes "refused-line") (codes "a line is refused"))
     ++ (said_if f.is_unfed (reason (codes "no-newline") (codes "its last line has no line feed"))
-    ++ said_if (has_many_lines dialect lines f) (reason (codes "many-lines") (many_lines_text dialect))))
+    ++ said_if (has_many_lines dialect lines f) (reason (codes "many-lines") (many_lines_text dialect f))))
 
 -- the same of a file that may be one of patterns, which cron doesn't read
 abbrev pub findings_of_lines : Dialect → ℕ → File → List Said
@@ -255,15 +257,27 @@ findings_of_lines dialects.System lines f = findings_of_crontab dialects.System 
 findings_of_lines dialects.Patterns lines f = []
 
 -- `file-name`: cron passes over a file for its name
-abbrev pub file_name : Said
-file_name = record {
+abbrev pub name_said : List ℕ → Said
+name_said text = record {
   found = finding_without_field severities.Warning (codes "file-name") (record { start = 0; end = 0 });
-  text = codes "cron passes over a file of this name, and no line of it is read here: write letters, digits, _ and - alone";
+  text = text;
 }
+
+-- of one of which no line is read
+abbrev pub file_name : Said
+file_name = name_said (codes "cron passes over a file of this name, and no line of it is read here: write letters, digits, _ and - alone")
+
+-- of one whose lines are read
+abbrev pub misnamed : Said
+misnamed = name_said (codes "cron passes over a file of this name: write letters, digits, _ and - alone")
+
+-- what is found of a file as a whole whose lines are read
+abbrev pub findings_of_read : Dialect → ℕ → File → List Said
+findings_of_read dialect lines f = said_if (is_misnamed_as dialect f) misnamed ++ findings_of_lines dialect lines f
 
 -- what is found of a file as a whole
 abbrev pub findings_of_file : Dialect → ℕ → File → List Said
-findings_of_file dialect lines f = if f.is_passed_over then file_name ∷ [] else findings_of_lines dialect lines f
+findings_of_file dialect lines f = if f.is_passed_over then file_name ∷ [] else findings_of_read dialect lines f
 
 -- where it is told: at the last of so many lines, and at line 1 where there is none
 abbrev pub last_line : ℕ → ℕ

@@ -7,6 +7,8 @@ ghost use Rattle.croncheck_findings.specs.Findings.{is_of_preset, described};
 ghost use Rattle.croncheck_report.specs.Report.{notes_of_refusal, taken_of};
 ghost use Rattle.croncheck_warnings.specs.Warnings.{field_name, other_name};
 
+mod days;
+mod fields;
 mod hints;
 pub mod of_file;
 mod places;
@@ -18,11 +20,12 @@ use croncheck_output::severity::Severity;
 use croncheck_report::allowed::{NOT_NEEDED, UNKNOWN_NAME, push_unknown};
 use croncheck_report::report::{JobReport, Report, SettingReport, Why};
 use croncheck_warnings::presets::{PRESET, Reading};
-use croncheck_warnings::warnings::{Dates, OtherWarning, SAME_JOB, Warning, warning_text};
+use croncheck_warnings::warnings::{OtherWarning, SAME_JOB, Warning};
 use croner::parser::PatternField;
 use crontab::line::Fault;
 use crontab::notes;
 use crontab::notes::Note;
+use fields::{Written, text_of, written_of};
 use places::{content_extent, place_of, times_extent};
 use reasons::{bytes_at_fault, push_why};
 use std::alloc::{AllocError, Global};
@@ -108,13 +111,14 @@ fn findings_of_preset(
 {
     let mut found = Vec::new(alloc);
     let told = those_of_preset(alloc, job.warnings.as_slice())?;
+    let written = written_of(alloc, job)?;
     push_each_warning(
         alloc,
         &mut found,
         pattern,
         job.schedule,
         told.as_slice(),
-        &job.dates,
+        &written,
     )?;
     Ok(found)
 }
@@ -312,6 +316,13 @@ fn push_setting(
         alloc,
         found,
         line,
+        setting.has_no_effect,
+        OtherWarning::NoEffect,
+    )?;
+    push_if(
+        alloc,
+        found,
+        line,
         setting.is_not_expanded,
         OtherWarning::NotExpanded,
     )?;
@@ -372,14 +383,8 @@ fn push_warnings(
         ++ map (finding_of_warning line.now job.now.schedule.now) (filter is_told_below job.now.warnings.items)) }
 {
     let told = warnings_told_below(alloc, job.warnings.as_slice())?;
-    push_each_warning(
-        alloc,
-        found,
-        line,
-        job.schedule,
-        told.as_slice(),
-        &job.dates,
-    )
+    let written = written_of(alloc, job)?;
+    push_each_warning(alloc, found, line, job.schedule, told.as_slice(), &written)
 }
 
 // Of some warnings those that are told below their line.
@@ -430,12 +435,12 @@ fn push_each_warning(
     line: &[u8],
     times: &[u8],
     warnings: &[Warning],
-    dates: &Option<Dates>,
+    written: &Written<'_>,
 ) -> Result<(), AllocError>
     ensures { OnOk result (findings_seen found.new.items ≡ findings_seen found.old.items ++ map (finding_of_warning line.now times.now) warnings.now) }
 {
     for warning in warnings {
-        found.push(finding_of_warning(alloc, line, times, *warning, dates)?)?;
+        found.push(finding_of_warning(alloc, line, times, *warning, written)?)?;
     }
     Ok(())
 }
@@ -445,11 +450,11 @@ fn finding_of_warning(
     line: &[u8],
     times: &[u8],
     warning: Warning,
-    dates: &Option<Dates>,
+    written: &Written<'_>,
 ) -> Result<Finding, AllocError>
     ensures { IfOk result (λ f. finding_seen f ≡ finding_of_warning line.now times.now warning) }
 {
-    let text = warning_text(alloc, warning, dates)?;
+    let text = text_of(alloc, warning, written)?;
     Ok(Finding {
         severity: severity_of(warning),
         name: warning.name(),

@@ -61,7 +61,6 @@ a_job : (hour : Offset) (schedule command : Bor (List ℕ)) (found : Vec Warning
       times = tolds.Runs text runs None None false;
       warnings = found;
       meetings = none_met;
-      dates = None;
       unneeded = unneeded;
     })) []
     ≡ object

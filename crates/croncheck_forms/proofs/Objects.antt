@@ -25,6 +25,7 @@ use Rattle.croncheck_forms.specs.Json.{integer_or_null, count_or_null, often_obj
 use Rattle.croncheck_output.specs.Output.{Written}
 use Rattle.croncheck_reading.specs.Progress.{Reports}
 use Rattle.croncheck_output.specs.Escaped.{exact_text}
+use Rattle.croncheck_output.specs.User.{user_shown}
 use Rattle.croncheck_report.specs.Offsets.{offset_of}
 use Rattle.croncheck_reading.specs.Stand.{Stand}
 
@@ -84,7 +85,7 @@ changes_whole (Some c) (Some d) = rw (change_whole c, change_whole d) refl
 
 job_whole : (zone : TimeZone) (j : JobReport) → has_float (job_object zone j) ≡ false
 job_whole zone j =
-    rw (changes_whole j.meetings.gap j.meetings.repeated, string_whole (option_map (λ c. exact_text c.now) j.command), times_whole zone j.times, string_whole (option_map (λ u. exact_text u.now) j.user))
+    rw (changes_whole j.meetings.gap j.meetings.repeated, string_whole (option_map (λ c. exact_text c.now) j.command), times_whole zone j.times, string_whole (option_map (λ name. exact_text name) (user_shown (option_map (λ u. u.now) j.user))))
 
 data_whole : (zone : TimeZone) (report : Report) → has_float (job_data zone report) ≡ false
 data_whole zone reports.Silent = refl

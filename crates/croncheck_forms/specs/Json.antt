@@ -33,6 +33,7 @@ use Rattle.croncheck_output.specs.Output.{Written}
 use Rattle.croncheck_reading.specs.Tally.{one_more}
 use Rattle.croncheck_reading.specs.Progress.{Reports}
 use Rattle.croncheck_output.specs.Escaped.{exact_text}
+use Rattle.croncheck_output.specs.User.{user_shown}
 use Rattle.croncheck_report.specs.Offsets.{offset_of}
 use Rattle.croncheck_reading.specs.Stand.{Stand}
 
@@ -73,6 +74,10 @@ integer z = number (of_integer z)
 abbrev pub string_or_null : Option (List ℕ) → Data
 string_or_null None = null
 string_or_null (Some text) = string text
+
+-- the user of a line, where the word there may be the name of one; else null
+abbrev pub user_or_null : Option (List ℕ) → Data
+user_or_null user = string_or_null (option_map (λ name. exact_text name) (user_shown user))
 
 -- a finding: how grave it is, its name and field, its place, and what it says
 abbrev pub finding_object : Finding → Data
@@ -182,7 +187,7 @@ job_object zone j = object
     (member (codes "command") (string_or_null (option_map (λ c. exact_text c.now) j.command))
     (member (codes "schedule") (string (exact_text j.schedule.now))
     (member (codes "times") (times_object zone j.times)
-    (member (codes "user") (string_or_null (option_map (λ u. exact_text u.now) j.user)) no_members)))))
+    (member (codes "user") (user_or_null (option_map (λ u. u.now) j.user)) no_members)))))
 
 -- the job of a report, or null
 abbrev pub job_data : TimeZone → Report → Data

@@ -4,7 +4,7 @@ ghost use Rattle.serde_json.specs.Data.{array};
 ghost use Rattle.serde_json.specs.View.{view, items_of};
 ghost use Rattle.jiff.specs.ZoneView.{plain_zone};
 ghost use Rattle.crontab.specs.Entries.{entry_seen};
-ghost use Rattle.croncheck_forms.specs.Json.{kind_of_line, kind_of, end_name, string_or_null, integer_or_null, count_or_null, run_object, previous_object, reach_name, often_object, named_object, times_object, fate_name, change_object, change_objects, objects_of_changes, job_object, job_data, finding_object, object_of};
+ghost use Rattle.croncheck_forms.specs.Json.{kind_of_line, kind_of, end_name, string_or_null, user_or_null, integer_or_null, count_or_null, run_object, previous_object, reach_name, often_object, named_object, times_object, fate_name, change_object, change_objects, objects_of_changes, job_object, job_data, finding_object, object_of};
 ghost use Rattle.croncheck_output.specs.Escaped.{exact_text};
 
 use croncheck_changes::changes::Fate;
@@ -12,6 +12,7 @@ use croncheck_changes::changes::meetings::{Meetings, Met};
 use croncheck_findings::findings::Finding;
 use croncheck_often::often::{Often, Reach};
 use croncheck_output::escaped::exact_text;
+use croncheck_output::user::user_shown;
 use croncheck_report::location::Location;
 use croncheck_report::report::{JobReport, Report};
 use croncheck_report::shared::{Shared, ahead_of};
@@ -106,7 +107,7 @@ fn job_object(
 {
     json!(in alloc; {
         "schedule": bytes_or_null(alloc, Some(job.schedule))?,
-        "user": bytes_or_null(alloc, job.user)?,
+        "user": user_or_null(alloc, job.user)?,
         "command": bytes_or_null(alloc, job.command)?,
         "times": times_value(alloc, shared, &job.times)?,
         "changes": changes_of(alloc, &job.meetings)?
@@ -166,6 +167,16 @@ fn bytes_or_null(alloc: Global, bytes: Option<&[u8]>) -> Result<Value, AllocErro
 {
     match bytes {
         Some(bytes) => Ok(Value::String(exact_text(alloc, bytes)?)),
+        None => Ok(Value::Null),
+    }
+}
+
+// The user of a line; null where the word there isn't the name of one: it may be a password.
+fn user_or_null(alloc: Global, user: Option<&[u8]>) -> Result<Value, AllocError>
+    ensures { IfOk result (λ v. view v ≡ user_or_null (option_map (λ u. u.now) user.entry)) }
+{
+    match user_shown(user) {
+        Some(name) => Ok(Value::String(exact_text(alloc, name)?)),
         None => Ok(Value::Null),
     }
 }

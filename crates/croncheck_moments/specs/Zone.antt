@@ -85,7 +85,7 @@ abbrev pub quote_text : List ℕ → List ℕ
 quote_text text = excerpt excerpt_characters text
 
 abbrev pub name_fault : List ℕ
-name_fault = codes " is no name of the time zone database, as Europe/Paris, and no POSIX rule, as CET-1CEST,M3.5.0,M10.5.0/3"
+name_fault = codes " is neither a zone name (such as Europe/Paris) nor a POSIX rule (such as CET-1CEST,M3.5.0,M10.5.0/3)"
 
 abbrev pub setting_fault : List ℕ → List ℕ
 setting_fault zone = codes " begins with TZ=: write the zone alone, here " ++ zone

@@ -284,7 +284,7 @@ impl fmt::Display for ZoneFault<'_> {
     fn fmt<W: fmt::Write>(&self, f: &mut fmt::Formatter<W>) -> fmt::Result {
         match *self {
             ZoneFault::Name => f.write_str(
-                " is no name of the time zone database, as Europe/Paris, and no POSIX rule, as CET-1CEST,M3.5.0,M10.5.0/3",
+                " is neither a zone name (such as Europe/Paris) nor a POSIX rule (such as CET-1CEST,M3.5.0,M10.5.0/3)",
             ),
             ZoneFault::Setting(zone) => {
                 write!(f, " begins with TZ=: write the zone alone, here {zone}")

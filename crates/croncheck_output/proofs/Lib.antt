@@ -1,4 +1,6 @@
+mod ExamplesBuilds
 mod ExamplesLook
+mod ExamplesUser
 mod ExamplesWritten
 mod HarmlessBytes
 pub mod InTurn

@@ -1,7 +1,9 @@
+pub mod Builds
 pub mod Escaped
 pub mod Front
 pub mod Look
 pub mod Output
 pub mod Private
 pub mod Severity
+pub mod User
 pub mod Wrapped

@@ -1,8 +1,8 @@
--- Worked rows of plans: what jobs are called, how much of what was found a list has, and how it ends.
+-- Worked rows of plans: how much of what was found a list has, and how it ends.
 use Rattle.std.proofs.Common.{◌≡◌, ℕ, ℤ, pos, Bool, List, [], ◌∷◌, true, false, Option, None, Some, refl}
 use Rattle.std.specs.Fmt.{digits}
 use Rattle.std.specs.Prelude.{codes}
-use Rattle.crontab.specs.Line.{Line, never, blank, comment, job, pattern}
+use Rattle.crontab.specs.Line.{Line, never, job}
 use Rattle.cronplan.specs.declared.start.JobStart.{JobStart}
 use Rattle.cronplan_forms.specs.declared.asked.PlanAsked.{PlanAsked}
 use Rattle.croncheck_changes.specs.declared.changes.Fate.{Fate}
@@ -14,113 +14,13 @@ use Rattle.croncheck_planner.specs.Dropped.{dropped_from}
 use Rattle.croncheck_planner.specs.Plan.{first_after, end_after, whole_end, end_up_to, starts_within}
 use Rattle.croncheck_planner.specs.PlanAnswers.{clock_head, unfollowed_text}
 use Rattle.croncheck_planner.specs.PlanList.{over_text, more_text, whose_by_kinds, line_text}
-use Rattle.croncheck_planner.specs.Planner.{label_text, above_at, planned_ending, with_number}
+use Rattle.croncheck_planner.specs.Planner.{label_text, planned_ending, with_number}
 use Rattle.croncheck_output.specs.Escaped.{shown_from}
-use Rattle.croncheck_planner.specs.Titles.{heading, title_of, title_text}
 
--- ---- titles
-
-a_comment : heading comment (codes "  ## nightly \t") ≡ Some (codes "nightly")
-unfolding title_text
-a_comment = refl
-
-an_empty_comment : heading comment (codes "#") ≡ Some []
-unfolding title_text
-an_empty_comment = refl
-
--- a job that was taken out: its command may hold a password
-a_job_taken_out : heading comment (codes "#0 3 * * * mysqldump -phunter2 app") ≡ Some []
-unfolding title_text
-a_job_taken_out = refl
-
-one_of_each_minute : heading comment (codes "# */5 * * * * root poll --key hunter2") ≡ Some []
-unfolding title_text
-one_of_each_minute = refl
-
-one_by_a_nickname : heading comment (codes "## @daily sync --key hunter2") ≡ Some []
-unfolding title_text
-one_by_a_nickname = refl
-
--- and so may a setting
-a_setting_taken_out : heading comment (codes "# PGPASSWORD=hunter2") ≡ Some []
-unfolding title_text
-a_setting_taken_out = refl
-
-a_setting_with_blanks : heading comment (codes "#MAILTO = ops") ≡ Some []
-unfolding title_text
-a_setting_with_blanks = refl
-
--- a name is one word
-an_equals_sign_in_words : heading comment (codes "# runs if x=y") ≡ Some (codes "runs if x=y")
-unfolding title_text
-an_equals_sign_in_words = refl
-
--- what names the fields is no title
-the_fields_named : heading comment (codes "# m h  dom mon dow   command") ≡ Some []
-unfolding title_text
-the_fields_named = refl
-
--- a word with a letter, and a line of dashes, are no minutes
-a_time_of_the_day : heading comment (codes "# 3am: nightly") ≡ Some (codes "3am: nightly")
-unfolding title_text
-a_time_of_the_day = refl
-
-dashes : heading comment (codes "# -- nightly --") ≡ Some (codes "-- nightly --")
-unfolding title_text
-dashes = refl
-
--- it leaves what stands above it
-what_is_allowed : heading comment (codes "# croncheck: allow gap") ≡ None
-unfolding title_text
-what_is_allowed = refl
-
-a_blank_line : heading blank [] ≡ Some []
-a_blank_line = refl
-
-nothing_above_a_file : above_at 0 (codes "of the file before") ≡ []
-nothing_above_a_file = refl
+-- ---- a line of a list
 
 abbrev of : List ℕ → Line
 of command = job (record { times = never; schedule = codes "0 5 * * *"; user = None; command = command })
-
-below_a_comment : title_of (codes "nightly") (of (codes "/usr/bin/backup --all")) ≡ codes "nightly"
-below_a_comment = refl
-
-by_its_path : title_of [] (of (codes "  /usr/bin/backup --all")) ≡ codes "backup"
-by_its_path = refl
-
-by_its_first_word : title_of [] (of (codes "backup /srv")) ≡ codes "backup"
-by_its_first_word = refl
-
--- what goes to a folder, or asks whether a program is to run, leads to it
-in_a_folder : title_of [] (of (codes "cd / && run-parts --report /etc/cron.hourly")) ≡ codes "run-parts"
-in_a_folder = refl
-
-if_there : title_of [] (of (codes "test -x /usr/sbin/anacron || { cd / && run-parts --report /etc/cron.daily; }")) ≡ codes "run-parts"
-if_there = refl
-
-else_run : title_of [] (of (codes "[ -d /run/systemd/system ] || /usr/sbin/scrub")) ≡ codes "scrub"
-else_run = refl
-
--- but not behind a quote, nor by one sign alone
-behind_a_quote : title_of [] (of (codes "[ 'a && b' ] && c")) ≡ codes "["
-behind_a_quote = refl
-
-by_one_sign : title_of [] (of (codes "cd /srv & backup")) ≡ codes "cd"
-by_one_sign = refl
-
-a_folder : title_of [] (of (codes "/srv/")) ≡ codes "/srv/"
-a_folder = refl
-
-by_its_times : title_of [] (of (codes "  ")) ≡ codes "0 5 * * *"
-by_its_times = refl
-
--- what a variable is set to may be a password
-by_no_variable : title_of [] (of (codes "PGPASSWORD=x pg_dump")) ≡ codes "0 5 * * *"
-by_no_variable = refl
-
-a_pattern : title_of [] (pattern (codes "0 9 * * MON")) ≡ codes "0 9 * * MON"
-a_pattern = refl
 
 -- a list, with commands or without
 abbrev a_list : Bool → PlanAsked

@@ -1,7 +1,11 @@
+mod Commands
 mod DroppedJobs
 mod ExamplesPlan
+mod ExamplesTitles
 mod MomentStarts
 mod OtherClocks
 mod PageLines
 mod PlanClocks
+mod ShownJobs
+mod TakenOut
 mod ToldLines

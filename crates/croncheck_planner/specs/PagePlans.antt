@@ -24,7 +24,7 @@ use Rattle.croncheck_planner.specs.Planner.{Jobs, Keeps, above_at, job_planned, 
 use Rattle.croncheck_reading.specs.Progress.{Reports}
 use Rattle.croncheck_reading.specs.Sink.{State}
 use Rattle.croncheck_reading.specs.Tally.{one_more}
-use Rattle.croncheck_planner.specs.Titles.{heading}
+use Rattle.croncheck_planner.specs.Titles.{heading, heading_seen}
 
 -- ---- what to beware of
 
@@ -82,11 +82,11 @@ pub record PlansLine (s : Settings) (old : State PagePlanner) (y : LineRead) (ne
   pub found : Vec Finding Global
   pub entry_is : IsEntryOf y entry
   pub read : IsOutcome s.parser y.is outcome
-  pub kept : KeepsIf s old.form.planner.asked (above_at old.stand.lines old.form.planner.above.items) old.stand.files old.stand.file.name (one_more old.stand.lines) y.is
+  pub kept : KeepsIf s old.form.planner.asked (above_at old.stand.lines (heading_seen old.form.planner.above)).title old.stand.files old.stand.file.name (one_more old.stand.lines) y.is
       (job_planned s y.is outcome) (jobs_seen old.form.planner.schedules old.form.planner.jobs) (jobs_seen new.form.planner.schedules new.form.planner.jobs) is_planned
   pub reported : Reports (brief_of s) old.stand y report new.stand
   pub found_is : findings_seen found.items ≡ findings_of_line y.bytes report
   pub told : TellsLine new.stand.file.name new.stand.lines is_planned report found old.form.found.items new.form.found.items old.written new.written
-  pub above : new.form.planner.above.items ≡ unwrap_or (heading y.is y.bytes) (above_at old.stand.lines old.form.planner.above.items)
+  pub above : heading_seen new.form.planner.above ≡ heading (above_at old.stand.lines (heading_seen old.form.planner.above)) y.is y.bytes
   pub asked : new.form.planner.asked ≡ old.form.planner.asked
   pub names : new.form.planner.names ≡ old.form.planner.names

@@ -22,6 +22,7 @@ use Rattle.croncheck_planner.specs.declared.planner.Planned.{Planned}
 use Rattle.croncheck_planner.specs.declared.planner.Planner.{Planner}
 use Rattle.croncheck_planner.specs.declared.planner.calendar.PlanFile.{PlanFile}
 use Rattle.croncheck_planner.specs.declared.planner.page.PagePlanner.{PagePlanner}
+use Rattle.croncheck_output.specs.Escaped.{spaced}
 use Rattle.croncheck_report.specs.declared.settings.Settings.{Settings}
 use Rattle.croncheck_report.specs.declared.shared.Shared.{Shared}
 use Rattle.croncheck_planner.specs.PagePlans.{lines_told, warnings_of}
@@ -43,16 +44,24 @@ IsOtherClockIn (Some zone) name span other =
 abbrev pub AreMarked : Planner → List Job → Type 0
 AreMarked p jobs = map (λ (j : Job). j.is_ignored) jobs ≡ map (λ (job : Planned). is_numbered p.ignored.items job.number) p.jobs.items
 
+-- it is this naming of a calendar, with the name as bytes of a file are shown
+pub record IsNamingShown (n shown : Naming) : Type 0 where
+  pub name_is : shown.name.now ≡ spaced n.name.now
+  pub stamp_is : shown.stamp ≡ n.stamp
+  pub lasts_is : shown.lasts ≡ n.lasts
+
 -- it is the calendar of the plan of a planner's jobs
 pub record IsCalendar (s : Settings) (p : Planner) (n : Naming) (file : PlanFile) : Type 0 where
   pub found : Found
+  pub naming : Naming
   pub view : View
   pub calendar : Calendar
   pub events : List Event
   pub found_is : IsFoundBy s p found
   pub is_view : IsViewOf s p.jobs.items found view
   pub are_marked : AreMarked p view.jobs.now
-  pub is_calendar : IsPlanCalendar view n calendar events
+  pub naming_is : IsNamingShown n naming
+  pub is_calendar : IsPlanCalendar view naming calendar events
   pub text_is : string_bytes file.text ≡ calendar_text calendar events
   pub cut : file.is_cut ≡ nat_lt most_events (length found.plan.starts.items)
 
@@ -65,7 +74,7 @@ pub record IsPage (s : Settings) (shared : Shared) (p : PagePlanner) (title : Li
   pub is_view : IsViewOf s p.planner.jobs.items found view
   pub zone_is : view.zone.now ≡ string_bytes p.planner.names.zone
   pub other_is : IsOtherClockIn shared.other_zone (string_bytes p.planner.names.other) found.plan.span view.other
-  pub title_is : about.title.now ≡ title
+  pub title_is : about.title.now ≡ spaced title
   pub ignored_are : about.ignored.now ≡ ignored
   pub warnings_are : map (λ w. lines_told w.lines.now) about.warnings.now ≡ warnings_of p.found.items
   pub is_page : IsPageText view about text

@@ -1,5 +1,5 @@
 -- What a planner takes of files, and what it writes. Source: docs/CRONTAB.md ("A plan"), and this crate's documentation of `Planner`.
-use Rattle.std.specs.Prelude.{◌≡◌, ◌==◌, ℕ, Bool, true, false, List, [], ◌∷◌, ◌++◌, codes, map, Option, Some, None, string_bytes, unwrap_or, if◌then◌else◌}
+use Rattle.std.specs.Prelude.{◌≡◌, ◌==◌, ℕ, Bool, true, false, List, [], ◌∷◌, ◌++◌, codes, map, Option, Some, None, option_map, string_bytes, unwrap_or, if◌then◌else◌}
 use Rattle.std.specs.declared.alloc.Global.{Global}
 use Rattle.std.specs.declared.vec.Vec.{Vec}
 use Rattle.std.specs.List.{list_any}
@@ -19,6 +19,7 @@ use Rattle.cronplan_jobs.specs.declared.listing.Schedule.TheVariants as schedule
 use Rattle.croncheck_planner.specs.declared.plan.Found.{Found}
 use Rattle.cronplan_forms.specs.declared.asked.FileAsked.{FileAsked}
 use Rattle.cronplan_forms.specs.declared.asked.PlanAsked.{PlanAsked}
+use Rattle.croncheck_planner.specs.declared.planner.Named.{Named}
 use Rattle.croncheck_planner.specs.declared.planner.Planned.{Planned}
 use Rattle.croncheck_planner.specs.declared.planner.Planner.{Planner}
 use Rattle.croncheck_report.specs.declared.report.Report.{Report}
@@ -37,27 +38,34 @@ use Rattle.croncheck_shown.specs.Reported.{WritesReport}
 use Rattle.croncheck_report.specs.Settings.{start_of, window_end}
 use Rattle.croncheck_output.specs.Front.{front_text}
 use Rattle.croncheck_shown.specs.Shown.{place_text}
+use Rattle.croncheck_output.specs.Builds.{begins_command}
 use Rattle.croncheck_output.specs.Escaped.{bytes_shown, spaced}
+use Rattle.croncheck_output.specs.User.{user_shown}
 use Rattle.croncheck_reading.specs.Sink.{State}
 use Rattle.croncheck_reading.specs.Stand.{Stand, at_line}
 use Rattle.croncheck_warnings.specs.Starred.{is_starred}
 use Rattle.croncheck_reading.specs.Tally.{counted, one_more}
-use Rattle.croncheck_planner.specs.Titles.{heading, title_of}
+use Rattle.croncheck_planner.specs.Titles.{HeadingSeen, heading, heading_seen, no_heading, title_beside, title_of}
 use Rattle.croncheck_report.specs.Told.{IsDescription}
 use Rattle.croncheck_warnings.specs.Users.{users_seen, is_unknown}
 
 -- ---- what is shown of a job
 
+-- a title as it is shown: in quotes where it would be taken for a command at the beginning of a line
+abbrev pub title_shown : List ℕ → List ℕ
+title_shown title = if begins_command title then codes "'" ++ (spaced title ++ codes "'") else spaced title
+
 -- so many bytes of a title, of a command or a pattern stand in a list at most
 abbrev pub command_bytes : ℕ
 command_bytes = 40
 
--- the user that a line names, its times as they are written, and its command; of a pattern both are the pattern
+-- the user that a line names, if that word may be the name of one; its times as they are written, and its command: of a pattern both are the
+-- pattern
 abbrev pub user_text : Line → List ℕ
 user_text blank = []
 user_text comment = []
 user_text (setting is_zone) = []
-user_text (job task) = unwrap_or task.user []
+user_text (job task) = unwrap_or (user_shown task.user) []
 user_text (pattern text) = []
 user_text (refused fault) = []
 
@@ -91,7 +99,16 @@ abbrev pub label_text : PlanAsked → List ℕ → ℕ → List ℕ → Line →
 label_text asked file line title is =
     codes "  " ++ (place_text file line ++ (front_text command_bytes title ++ (if asked.has_commands then command_after title (command_of is) else [])))
 
--- what is shown of a job, with the number of its file among those that are read, from 1
+-- a title, and what a list shows of a job with it
+pub record NameShown : Type 0 where
+  pub title : List ℕ
+  pub label : List ℕ
+
+abbrev pub name_seen : Named → NameShown
+name_seen n = record { title = string_bytes n.title; label = string_bytes n.label }
+
+-- what is shown of a job, with the number of its file among those that are read, from 1; and how it is named instead beside other jobs of its
+-- file, where that is different
 pub record JobShown : Type 0 where
   pub number : ℕ
   pub line : ℕ
@@ -102,6 +119,7 @@ pub record JobShown : Type 0 where
   pub words : List ℕ
   pub command : List ℕ
   pub label : List ℕ
+  pub beside : Option NameShown
 
 abbrev pub planned_seen : Planned → JobShown
 planned_seen p = record {
@@ -114,7 +132,12 @@ planned_seen p = record {
   words = string_bytes p.words;
   command = p.command.items;
   label = string_bytes p.label;
+  beside = option_map name_seen p.beside;
 }
+
+-- how a job is named with a title
+abbrev pub name_with : PlanAsked → List ℕ → ℕ → Line → List ℕ → NameShown
+name_with asked file line is title = record { title = title_shown title; label = label_text asked file line title is }
 
 -- the same of the job of a line at a place, in the file with a number, above which this stands, whose times mean this in words
 abbrev pub job_shown : PlanAsked → ℕ → List ℕ → ℕ → List ℕ → List ℕ → Line → JobShown
@@ -122,13 +145,32 @@ job_shown asked number file line above words is = record {
   number = number;
   line = line;
   file = file;
-  title = spaced (title_of above is);
+  title = title_shown (title_of file above is);
   user = bytes_shown (user_text is);
   times = bytes_shown (times_of is);
   words = words;
   command = command_of is;
-  label = label_text asked file line (title_of above is) is;
+  label = label_text asked file line (title_of file above is) is;
+  beside = option_map (name_with asked file line is) (title_beside file above is);
 }
+
+-- as it is named beside other jobs of its file
+abbrev pub named_by : Option NameShown → JobShown → JobShown
+named_by None j = j
+named_by (Some n) j = record j { title = n.title; label = n.label; beside = None }
+
+abbrev pub beside_shown : JobShown → JobShown
+beside_shown j = named_by j.beside j
+
+-- a job behind the last one: both are named as beside others where they are of one file
+abbrev pub pair_shown : JobShown → JobShown → List JobShown
+pair_shown last j = if last.number == j.number then beside_shown last ∷ beside_shown j ∷ [] else last ∷ j ∷ []
+
+-- one more job behind some, of which only the last may be named otherwise
+abbrev pub with_shown : List JobShown → JobShown → List JobShown
+with_shown [] j = j ∷ []
+with_shown (first ∷ []) j = pair_shown first j
+with_shown (first ∷ (second ∷ others)) j = first ∷ with_shown (second ∷ others) j
 
 -- ---- the jobs
 
@@ -174,7 +216,7 @@ pub record Keeps (s : Settings) (asked : PlanAsked) (above : List ℕ) (number :
   pub words : List ℕ
   pub described : IsDescription s.language (job_of cron) words
   pub jobs : new.jobs ≡ old.jobs ++ schedule_of is cron ∷ []
-  pub shown : new.shown ≡ old.shown ++ job_shown asked number file line above words is ∷ []
+  pub shown : new.shown ≡ with_shown old.shown (job_shown asked number file line above words is)
 
 -- the same of the line that was read last, and nothing was written
 pub record Adds (s : Settings) (asked : PlanAsked) (above : List ℕ) (is : Line) (cron : Cron) (old new : Seen) : Type 0 where
@@ -217,9 +259,9 @@ PlansJob s asked above text entry None old new = Passes s asked text entry old n
 abbrev pub PlansOutcome : Settings → PlanAsked → List ℕ → List ℕ → Entry → Outcome → Seen → Seen → Type 0
 PlansOutcome s asked above text entry found old new = PlansJob s asked above text entry (job_planned s (entry_seen entry) found) old new
 
--- the title that stands above a line, of which so many were read in its file before: none above the first
-abbrev pub above_at : ℕ → List ℕ → List ℕ
-above_at lines above = if lines == 0 then [] else above
+-- what stands above a line, of which so many were read in its file before: nothing above the first
+abbrev pub above_at : ℕ → HeadingSeen → HeadingSeen
+above_at lines above = if lines == 0 then no_heading else above
 
 -- ---- the files that cron ignores
 
@@ -242,9 +284,9 @@ pub record Plans (s : Settings) (old : State Planner) (y : LineRead) (new : Stat
   pub found : Outcome
   pub entry_is : IsEntryOf y entry
   pub read : IsOutcome s.parser y.is found
-  pub planned : PlansOutcome s old.form.asked (above_at old.stand.lines old.form.above.items) y.bytes entry found
+  pub planned : PlansOutcome s old.form.asked (above_at old.stand.lines (heading_seen old.form.above)).title y.bytes entry found
       (seen old.form.schedules old.form.jobs (at_line y.is y.is_fed old.stand) old.written) (seen new.form.schedules new.form.jobs new.stand new.written)
-  pub above : new.form.above.items ≡ unwrap_or (heading y.is y.bytes) (above_at old.stand.lines old.form.above.items)
+  pub above : heading_seen new.form.above ≡ heading (above_at old.stand.lines (heading_seen old.form.above)) y.is y.bytes
   pub ignored : new.form.ignored.items ≡ ignored_after s.dialect new.stand old.form.ignored.items
   pub asked : new.form.asked ≡ old.form.asked
   pub names : new.form.names ≡ old.form.names

@@ -1,11 +1,12 @@
 //! The form of a plan: takes the jobs of all files, and after them writes their starts.
-ghost use Rattle.std.specs.Prelude.{◌≡◌, ◌++◌, ℕ, List, [], None, Some, IfOk, IfErr, OnOk, string_bytes, option_map, unwrap_or};
+ghost use Rattle.std.specs.Prelude.{◌≡◌, ◌∷◌, ◌++◌, ℕ, List, [], None, Some, IfOk, IfErr, OnOk, map, string_bytes, option_map, unwrap_or};
 ghost use Rattle.croner.specs.declared.job.Cron.{Cron as Made};
 ghost use Rattle.croner.specs.Views.{job_of as meaning_of_job};
 ghost use Rattle.crontab.specs.Content.{IsOutcome};
 ghost use Rattle.crontab.specs.Entries.{entry_seen};
 ghost use Rattle.croncheck_output.specs.Output.{Written, written_of};
-ghost use Rattle.croncheck_planner.specs.Planner.{seen, planned_seen, job_shown, schedule_of, label_text, command_after, user_text, command_of, times_of, above_at, is_refused_by_user, with_job, jobs_seen, Adds, IsFoundBy, Keeps, Passes, PlansOutcome, WritesListed, WritesAnswered, WritesPassed, WritesPlan, has_jobs, ignored_after, is_numbered, with_number, planned_ending, planned_text, WritesPlanEnding};
+ghost use Rattle.croncheck_planner.specs.Titles.{heading_seen, title_beside};
+ghost use Rattle.croncheck_planner.specs.Planner.{seen, planned_seen, job_shown, schedule_of, label_text, command_after, title_shown, name_seen, name_with, beside_shown, pair_shown, with_shown, user_text, command_of, times_of, above_at, is_refused_by_user, with_job, jobs_seen, Adds, IsFoundBy, Keeps, Passes, PlansOutcome, WritesListed, WritesAnswered, WritesPassed, WritesPlan, has_jobs, ignored_after, is_numbered, with_number, planned_ending, planned_text, WritesPlanEnding};
 ghost use Rattle.croncheck_output.specs.Escaped.{spaced};
 ghost use Rattle.croncheck_reading.specs.Stand.{stand_of};
 ghost use Rattle.croncheck_report.specs.Told.{IsDescription};
@@ -17,12 +18,14 @@ pub mod page;
 
 use crate::plan::answers::write_answers;
 use crate::plan::list::{whose_text, write_list};
-use crate::plan::title::{heading_of, title_of};
+use crate::plan::title::{Heading, heading_of, title_beside, title_of};
 use crate::plan::{Found, answered_plan, listed_plan};
 pub use calendar::PlanFile;
+use croncheck_output::builds::begins_command;
 use croncheck_output::escaped::shown_text;
 use croncheck_output::front::{COMMAND_BYTES, push_front, push_spaced};
 use croncheck_output::output::Output;
+use croncheck_output::user::user_shown;
 use croncheck_reading::form::Form;
 use croncheck_reading::progress::{Line, Progress, Terms};
 use croncheck_reading::tally::{Tally, one_more};
@@ -54,6 +57,15 @@ pub struct ClockNames {
     pub other: String,
 }
 
+/// How a job is named.
+#[derive(Drop)]
+pub struct Named {
+    /// Its title, as it is shown.
+    pub title: String,
+    // Its place, the front of its title, and the front of its command if that is asked for.
+    pub(crate) label: String,
+}
+
 /// What is shown of a job of a plan.
 #[derive(Drop)]
 pub struct Planned {
@@ -65,7 +77,7 @@ pub struct Planned {
     pub file: String,
     /// Its title, as it is shown.
     pub title: String,
-    /// The name of its user, as it is shown; empty where the file names none.
+    /// The name of its user, as it is shown; empty where the file names none, or a word that is no name.
     pub user: String,
     /// Its times as they are written, in the way that bytes of a file are shown.
     pub times: String,
@@ -75,6 +87,21 @@ pub struct Planned {
     pub command: Vec<u8>,
     // Its place, the front of its title, and the front of its command if that is asked for.
     pub(crate) label: String,
+    // How it is named instead where its file has other jobs in the plan, if that is otherwise.
+    beside: Option<Named>,
+}
+
+impl Planned {
+    // Names it as beside other jobs of its file.
+    fn stand_beside(&mut self)
+        ensures { planned_seen self.new ≡ beside_shown (planned_seen self.old) }
+    {
+        if let Some(beside) = self.beside.take() {
+            let Named { title, label } = beside;
+            self.title = title;
+            self.label = label;
+        }
+    }
 }
 
 /// Takes the jobs of files, and writes the plan of all of them. A line whose job has no time, and a line that is refused, is told as in a
@@ -83,8 +110,8 @@ pub struct Planned {
 pub struct Planner {
     schedules: Vec<Schedule>,
     jobs: Vec<Planned>,
-    // The title that comments give to the next line; empty where they give none.
-    above: Vec<u8>,
+    // What stands above the next line.
+    above: Heading,
     // The numbers of the files that cron ignores as a whole, each once.
     ignored: Vec<u64>,
     asked: PlanAsked,
@@ -102,16 +129,16 @@ impl Planner {
         Planner {
             schedules: Vec::new(alloc),
             jobs: Vec::new(alloc),
-            above: Vec::new(alloc),
+            above: Heading::none(alloc),
             ignored: Vec::new(alloc),
             asked,
             names,
         }
     }
 
-    // Forgets the title that stood above the first line of a file, of which so many lines were read.
-    fn begin_file(&mut self, lines: u64)
-        ensures above { self.new.above.items ≡ above_at lines self.old.above.items }
+    // Forgets what stood above the first line of a file, of which so many lines were read.
+    fn begin_file(&mut self, alloc: Global, lines: u64)
+        ensures above { heading_seen self.new.above ≡ above_at lines (heading_seen self.old.above) }
         ensures schedules { self.new.schedules ≡ self.old.schedules }
         ensures jobs { self.new.jobs ≡ self.old.jobs }
         ensures ignored { self.new.ignored ≡ self.old.ignored }
@@ -119,13 +146,13 @@ impl Planner {
         ensures names { self.new.names ≡ self.old.names }
     {
         if lines == 0 {
-            self.above.clear();
+            self.above = Heading::none(alloc);
         }
     }
 
-    // Takes the title that a line gives to the next one, where it doesn't leave the one above it.
-    fn take_heading(&mut self, heading: Option<Vec<u8>>)
-        ensures above { self.new.above.items ≡ unwrap_or (option_map (λ text. text.items) heading) self.old.above.items }
+    // Takes what stands above the next line, where that isn't what stands above this one.
+    fn take_heading(&mut self, heading: Option<Heading>)
+        ensures above { heading_seen self.new.above ≡ unwrap_or (option_map heading_seen heading) (heading_seen self.old.above) }
         ensures schedules { self.new.schedules ≡ self.old.schedules }
         ensures jobs { self.new.jobs ≡ self.old.jobs }
         ensures ignored { self.new.ignored ≡ self.old.ignored }
@@ -161,19 +188,18 @@ impl Planner {
         job: Cron,
         entry: &Entry<'_>,
     ) -> io::Result<()>
-        ensures keeps { OnOk result (Keeps terms.now.settings.now self.old.asked self.old.above.items number place.entry.file.now place.entry.line (entry_seen entry.now) job
+        ensures keeps { OnOk result (Keeps terms.now.settings.now self.old.asked self.old.above.title.items number place.entry.file.now place.entry.line (entry_seen entry.now) job
             (jobs_seen self.old.schedules self.old.jobs) (jobs_seen self.new.schedules self.new.jobs)) }
         ensures above { self.new.above ≡ self.old.above }
         ensures ignored { self.new.ignored ≡ self.old.ignored }
         ensures asked { self.new.asked ≡ self.old.asked }
         ensures names { self.new.names ≡ self.old.names }
     {
-        let above = self.above.as_slice();
+        let above = self.above.title.as_slice();
         let planned = planned_of(terms, self.asked, number, place, above, entry, &job)?;
         self.schedules.reserve(1)?;
-        self.jobs.reserve(1)?;
+        push_planned(&mut self.jobs, planned)?;
         self.schedules.push_reserved(schedule_of(entry, job));
-        self.jobs.push_reserved(planned);
         Ok(())
     }
 
@@ -185,7 +211,7 @@ impl Planner {
         job: Cron,
         entry: &Entry<'_>,
     ) -> io::Result<()>
-        ensures adds { (written : Written) → OnOk result (Adds terms.now.settings.now self.old.asked self.old.above.items (entry_seen entry.now) job
+        ensures adds { (written : Written) → OnOk result (Adds terms.now.settings.now self.old.asked self.old.above.title.items (entry_seen entry.now) job
             (seen self.old.schedules self.old.jobs (stand_of progress.old) written) (seen self.new.schedules self.new.jobs (stand_of progress.new) written)) }
         ensures above { self.new.above ≡ self.old.above }
         ensures ignored { self.new.ignored ≡ self.old.ignored }
@@ -255,7 +281,7 @@ impl Planner {
         outcome: Outcome,
         output: &mut Output<W>,
     ) -> io::Result<()>
-        ensures plans { IsOutcome terms.now.settings.now.parser (entry_seen entry.entry) outcome → OnOk result (PlansOutcome terms.now.settings.now self.old.asked self.old.above.items line.now entry.entry outcome
+        ensures plans { IsOutcome terms.now.settings.now.parser (entry_seen entry.entry) outcome → OnOk result (PlansOutcome terms.now.settings.now self.old.asked self.old.above.title.items line.now entry.entry outcome
             (seen self.old.schedules self.old.jobs (stand_of progress.old) (written_of W.contents output.old))
             (seen self.new.schedules self.new.jobs (stand_of progress.new) (written_of W.contents output.new))) }
         ensures above { self.new.above ≡ self.old.above }
@@ -363,9 +389,9 @@ impl Form for Planner {
             entry,
             is_fed,
         } = line;
-        self.begin_file(progress.lines);
+        self.begin_file(terms.alloc, progress.lines);
         progress.next_line(&entry, is_fed);
-        let heading = heading_of(terms.alloc, &entry, text)?;
+        let heading = heading_of(terms.alloc, &self.above, &entry, text)?;
         let outcome = outcome_of(terms.alloc, terms.settings.parser, &entry)?;
         self.plan_line(terms, progress, text, entry, outcome, output)?;
         self.take_heading(heading);
@@ -416,19 +442,58 @@ fn planned_ending(has_some: bool, mut ending: String) -> Result<String, AllocErr
     ensures { IfOk result (λ text. string_bytes text ≡ planned_ending has_some (string_bytes ending)) }
 {
     if !ending.is_empty() {
-        push_planned(&mut ending, has_some)?;
+        push_are_planned(&mut ending, has_some)?;
     }
     Ok(ending)
 }
 
 // Appends to a text that jobs of a file are planned, where it has some.
-fn push_planned(text: &mut String, has_some: bool) -> Result<(), AllocError>
+fn push_are_planned(text: &mut String, has_some: bool) -> Result<(), AllocError>
     ensures { OnOk result (string_bytes text.new ≡ string_bytes text.old ++ planned_text has_some) }
 {
     if !has_some {
         return Ok(());
     }
     text.push_str("  its jobs are in this plan, as cron would start them once that is mended\n")
+}
+
+// Puts a job behind others. The last of these and the job are named as beside others where they are of one file.
+#[tactic(auto, using(crate::proofs::ShownJobs::one_more))]
+fn push_planned(jobs: &mut Vec<Planned>, job: Planned) -> Result<(), AllocError>
+    ensures { OnOk result (map planned_seen jobs.new.items ≡ with_shown (map planned_seen jobs.old.items) (planned_seen job)) }
+{
+    match jobs.pop() {
+        Some(last) => push_pair(jobs, last, job),
+        None => push_first(jobs, job),
+    }
+}
+
+fn push_first(jobs: &mut Vec<Planned>, job: Planned) -> Result<(), AllocError>
+    ensures { OnOk result (jobs.new.items ≡ jobs.old.items ++ job ∷ []) }
+{
+    jobs.push(job)?;
+    Ok(())
+}
+
+// Puts two jobs behind others, named as beside others where they are of one file.
+#[tactic(auto, using(crate::proofs::ShownJobs::two_more))]
+fn push_pair(jobs: &mut Vec<Planned>, mut last: Planned, mut job: Planned) -> Result<(), AllocError>
+    ensures { OnOk result (map planned_seen jobs.new.items ≡ map planned_seen jobs.old.items ++ pair_shown (planned_seen last) (planned_seen job)) }
+{
+    name_pair(&mut last, &mut job);
+    jobs.push(last)?;
+    jobs.push(job)?;
+    Ok(())
+}
+
+// Names two jobs as beside others where they are of one file.
+fn name_pair(last: &mut Planned, job: &mut Planned)
+    ensures { planned_seen last.new ∷ planned_seen job.new ∷ [] ≡ pair_shown (planned_seen last.old) (planned_seen job.old) }
+{
+    if last.number == job.number {
+        last.stand_beside();
+        job.stand_beside();
+    }
 }
 
 // Puts a number among numbers, unless it is there.
@@ -527,10 +592,11 @@ fn planned_in(
 ) -> Result<Planned, AllocError>
     ensures { IfOk result (λ planned. planned_seen planned ≡ job_shown asked number place.entry.file.now place.entry.line above.now (string_bytes words) (entry_seen entry.now)) }
 {
-    let title = title_of(above, entry);
+    let title = title_of(place.file.as_bytes(), above, entry);
+    let beside = named_beside(alloc, asked, place, above, entry)?;
     let label = label_of(alloc, asked, place, title, entry)?;
     let file = String::from_str(alloc, place.file)?;
-    let title = spaced_text(alloc, title)?;
+    let title = shown_title(alloc, title)?;
     let user = shown_text(alloc, user_of(entry))?;
     let times = shown_text(alloc, times_of(entry))?;
     let command = copy_of(alloc, command_of(entry))?;
@@ -545,7 +611,27 @@ fn planned_in(
         words,
         command,
         label,
+        beside,
     })
+}
+
+// How the job of an entry at a place is named beside other jobs of its file, if that is otherwise.
+fn named_beside(
+    alloc: Global,
+    asked: PlanAsked,
+    place: Location<'_>,
+    above: &[u8],
+    entry: &Entry<'_>,
+) -> Result<Option<Named>, AllocError>
+    ensures { IfOk result (λ beside. option_map name_seen beside
+        ≡ option_map (name_with asked place.entry.file.now place.entry.line (entry_seen entry.now)) (title_beside place.entry.file.now above.now (entry_seen entry.now))) }
+{
+    let Some(title) = title_beside(alloc, place.file.as_bytes(), above, entry)? else {
+        return Ok(None);
+    };
+    let label = label_of(alloc, asked, place, title.as_slice(), entry)?;
+    let title = shown_title(alloc, title.as_slice())?;
+    Ok(Some(Named { title, label }))
 }
 
 // What a list shows of a job: its place, the front of its title, and of its command where that is asked for.
@@ -582,7 +668,7 @@ fn user_of<'e>(entry: &Entry<'e>) -> &'e [u8]
     ensures { result.now ≡ user_text (entry_seen entry.now) }
 {
     match entry {
-        Entry::Job(job) => job.user.unwrap_or(&[]),
+        Entry::Job(job) => user_shown(job.user).unwrap_or(&[]),
         Entry::Blank
         | Entry::Comment
         | Entry::Setting { .. }
@@ -611,8 +697,21 @@ fn command_of<'e>(entry: &Entry<'e>) -> &'e [u8]
     }
 }
 
-// Bytes as they are shown, a tab as a space.
-fn spaced_text(alloc: Global, bytes: &[u8]) -> Result<String, AllocError>
+// A title as it is shown: in quotes where it would be taken for a command at the beginning of a line.
+fn shown_title(alloc: Global, title: &[u8]) -> Result<String, AllocError>
+    ensures { IfOk result (λ text. string_bytes text ≡ title_shown title.now) }
+{
+    if !begins_command(title) {
+        return spaced_text(alloc, title);
+    }
+    let mut text = String::from_str(alloc, "'")?;
+    push_spaced(&mut text, title)?;
+    text.push_str("'")?;
+    Ok(text)
+}
+
+/// Bytes as they are shown, a tab as a space. The only error is lack of memory.
+pub(crate) fn spaced_text(alloc: Global, bytes: &[u8]) -> Result<String, AllocError>
     ensures { IfOk result (λ text. string_bytes text ≡ spaced bytes.now) }
 {
     let mut text = String::new(alloc);

@@ -12,7 +12,7 @@ use Rattle.crontab.specs.Checked.{LineRead, entry_of_line, TakesInTurn, TakesAll
 use Rattle.croncheck_reading.specs.Files.{Contents}
 use Rattle.croncheck_files.specs.Folder.{sort_of}
 use Rattle.croncheck_files.specs.Names.{File, dialect_of}
-use Rattle.croncheck_output.specs.Escaped.{bytes_shown}
+use Rattle.croncheck_output.specs.Builds.{path_shown}
 use Rattle.croncheck_files.specs.declared.fitness.Unfit.{Unfit}
 use Rattle.croncheck_files.specs.declared.folder.Sort.{Sort}
 use Rattle.croncheck_output.specs.Output.{Written, IsFlushed}
@@ -90,15 +90,15 @@ module _ {M X V S : Type 0} (Has : M → Type 0) (view : X → V) (Tells : M →
 pub told_as : {F : Type 0} (takes : Terms → State F → LineRead → State F → Type 0) (ends_file : Terms → F → Stand → Written → Written → Type 0)
     (kinds : TermsByKind) (m : Contents) (f : File) (t : Terms) (dialect : Dialect) (unfit : Option Unfit) (old new : State F) (remaining : Option (List ℕ))
     → t ≡ terms_of kinds dialect → dialect ≡ dialect_of f → unfit ≡ m.unfit_of f.word → remaining ≡ Some (m.text_of f.word)
-    → IfSome remaining (λ x. IsToldFile (takes t) (ends_file t) t.settings.now.dialect (bytes_shown f.name) unfit x old new)
+    → IfSome remaining (λ x. IsToldFile (takes t) (ends_file t) t.settings.now.dialect (path_shown f.name) unfit x old new)
     → IsToldAs takes ends_file kinds m f old new
 told_as {F} takes ends_file kinds m f t dialect unfit old new remaining is_t is_dialect is_unfit is h =
     let same : t ≡ terms_of kinds (dialect_of f) = is_t ∙ ap (terms_of kinds) is_dialect in
     let text = m.text_of f.word in
-    let P : List ℕ → Type 0 = λ x. IsToldFile (takes t) (ends_file t) t.settings.now.dialect (bytes_shown f.name) unfit x old new in
+    let P : List ℕ → Type 0 = λ x. IsToldFile (takes t) (ends_file t) t.settings.now.dialect (path_shown f.name) unfit x old new in
     let here : P text = subst (λ (o : Option (List ℕ)). IfSome o P) is h in
-    let fit = subst (λ (u : Option Unfit). IsToldFile (takes t) (ends_file t) t.settings.now.dialect (bytes_shown f.name) u text old new) is_unfit here in
-    subst (λ (u : Terms). IsToldFile (takes u) (ends_file u) u.settings.now.dialect (bytes_shown f.name) (m.unfit_of f.word) text old new) same fit
+    let fit = subst (λ (u : Option Unfit). IsToldFile (takes t) (ends_file t) t.settings.now.dialect (path_shown f.name) u text old new) is_unfit here in
+    subst (λ (u : Terms). IsToldFile (takes u) (ends_file u) u.settings.now.dialect (path_shown f.name) (m.unfit_of f.word) text old new) same fit
 
 -- a file was told as its sort says
 pub told_of : {F : Type 0} (takes : Terms → State F → LineRead → State F → Type 0) (ends_file : Terms → F → Stand → Written → Written → Type 0)

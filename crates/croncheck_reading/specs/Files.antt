@@ -1,5 +1,5 @@
 -- The files of a call, and what is said at its end. Source: this crate's documentation of `tell_files`.
-use Rattle.std.specs.Prelude.{◌≡◌, ◌==◌, ℕ, Bool, List, [], ◌++◌, codes, Option, Some, if◌then◌else◌}
+use Rattle.std.specs.Prelude.{◌≡◌, ◌==◌, ℕ, Bool, List, [], ◌++◌, codes, Option, Some, None, if◌then◌else◌}
 use Rattle.std.specs.declared.alloc.Global.{Global}
 use Rattle.std.specs.declared.string.String.{String}
 use Rattle.std.specs.Fmt.{decimal}
@@ -42,8 +42,18 @@ files_noun files = if files == 1 then codes "file" else codes "files"
 abbrev pub ignored_text : ℕ → List ℕ
 ignored_text ignored = if ignored == 0 then [] else codes ", " ++ (decimal ignored ++ (codes " " ++ (files_noun ignored ++ codes " ignored")))
 
--- what is said at the end
-abbrev pub summary_of : Tally → List ℕ
-summary_of t =
-    decimal t.jobs ++ (codes " " ++ (noun_of t.jobs ++ (codes ", " ++ (decimal t.refused
-    ++ (codes " refused" ++ (warned_text t.warned ++ (ignored_text t.ignored ++ codes "\n")))))))
+-- how many files there were, where the zone is named
+abbrev pub files_text : Option (List ℕ) → ℕ → List ℕ
+files_text None files = []
+files_text (Some zone) files = decimal files ++ (codes " " ++ (files_noun files ++ codes ", "))
+
+-- the name of the zone, where it is named
+abbrev pub zone_text : Option (List ℕ) → List ℕ
+zone_text None = []
+zone_text (Some zone) = codes ", zone " ++ zone
+
+-- what is said at the end of so many files, the zone of which may be named
+abbrev pub summary_of : Option (List ℕ) → ℕ → Tally → List ℕ
+summary_of zone files t =
+    files_text zone files ++ (decimal t.jobs ++ (codes " " ++ (noun_of t.jobs ++ (codes ", " ++ (decimal t.refused
+    ++ (codes " refused" ++ (warned_text t.warned ++ (ignored_text t.ignored ++ (zone_text zone ++ codes "\n")))))))))

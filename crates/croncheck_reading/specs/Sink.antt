@@ -22,7 +22,7 @@ use Rattle.croncheck_files.specs.Names.{File, dialect_of}
 use Rattle.croncheck_output.specs.Output.{Written, written_of, IsFlushed}
 use Rattle.croncheck_reading.specs.Tally.{none_counted, status_of}
 use Rattle.croncheck_reading.specs.Same.{JobKey, place_kept}
-use Rattle.croncheck_output.specs.Escaped.{bytes_shown}
+use Rattle.croncheck_output.specs.Builds.{path_shown}
 use Rattle.croncheck_reading.specs.Stand.{Stand, stand_of, begin_of_file, begin_passed_over, end_of_file}
 
 -- nothing was read yet
@@ -79,7 +79,7 @@ abbrev pub IsToldAs : {F : Type 0} → (Terms → State F → LineRead → State
     → Contents → File → State F → State F → Type 0
 IsToldAs takes ends_file k m f old new =
     let terms = terms_of k (dialect_of f) in
-    IsToldFile (takes terms) (ends_file terms) terms.settings.now.dialect (bytes_shown f.name) (m.unfit_of f.word) (m.text_of f.word) old new
+    IsToldFile (takes terms) (ends_file terms) terms.settings.now.dialect (path_shown f.name) (m.unfit_of f.word) (m.text_of f.word) old new
 
 -- a file was told that cron passes over for its name, which is shown so: none of its lines was taken
 abbrev pub IsPassedOver : {F : Type 0} → (F → Stand → Written → Written → Type 0) → Dialect → List ℕ → State F → State F → Type 0
@@ -92,7 +92,7 @@ IsToldBy treatments.Silent takes ends_file k m f old new = new ≡ old
 IsToldBy treatments.NotEntered takes ends_file k m f old new = new ≡ old
 IsToldBy treatments.NoCrontab takes ends_file k m f old new = new ≡ old
 IsToldBy treatments.PassedOver takes ends_file k m f old new =
-    let terms = terms_of k (dialect_of f) in IsPassedOver (ends_file terms) terms.settings.now.dialect (bytes_shown f.name) old new
+    let terms = terms_of k (dialect_of f) in IsPassedOver (ends_file terms) terms.settings.now.dialect (path_shown f.name) old new
 IsToldBy treatments.Read takes ends_file k m f old new = IsToldAs takes ends_file k m f old new
 
 -- a file of this name in a folder that is asked for was told

@@ -9,7 +9,7 @@ use Rattle.crontab.specs.declared.line.Dialect.{Dialect}
 use Rattle.crontab.specs.Checked.{LineRead, line_seen}
 use Rattle.crontab.specs.Line.{Line as Meant}
 use Rattle.croncheck_report.specs.Allowed.{names_seen}
-use Rattle.croncheck_report.specs.FileSeen.{File, file_seen, is_ignored, unread_of, of_passed_over, with_line}
+use Rattle.croncheck_report.specs.FileSeen.{File, file_seen, is_ignored, has_warned_name, unread_of, of_passed_over, with_line}
 use Rattle.croncheck_reading.specs.Tally.{one_more, with_file}
 
 -- how far the reading has come: what was counted, the jobs that were seen, what was seen of the file, its number from 1, how many of its lines
@@ -38,9 +38,9 @@ begin_passed_over name s = record s { file = of_passed_over name; files = one_mo
 abbrev pub at_line : Meant → Bool → Stand → Stand
 at_line line is_fed s = record s { file = with_line (one_more s.lines) line is_fed s.file; lines = one_more s.lines }
 
--- at the end of the file: it is counted, if cron ignores it as a whole or passes over it
+-- at the end of the file: it is counted, if cron ignores it as a whole or for its name
 abbrev pub end_of_file : Dialect → Stand → Stand
-end_of_file dialect s = record s { tally = with_file (is_ignored dialect s.lines s.file) s.file.is_passed_over s.tally }
+end_of_file dialect s = record s { tally = with_file (is_ignored dialect s.lines s.file) (has_warned_name dialect s.file) s.tally }
 
 -- what is seen of a line
 abbrev pub line_taken : Line → LineRead

@@ -6,6 +6,7 @@ use Rattle.crontab.specs.declared.line.Dialect.{Dialect}
 use Rattle.croncheck_report.specs.declared.report.Report.TheVariants as reports
 use Rattle.croncheck_report.specs.declared.report.Report.{Report}
 use Rattle.croncheck_reading.specs.declared.tally.Tally.{Tally}
+use Rattle.croncheck_files.specs.Names.{is_installed}
 use Rattle.croncheck_report.specs.FileSeen.{File, is_late, is_refused}
 use Rattle.croncheck_report.specs.Report.{has_warnings, is_refused_elsewhere}
 use Rattle.croncheck_warnings.specs.Warnings.{is_first_too_many}
@@ -35,10 +36,14 @@ counted t (reports.Setting seen has_feed) = record t { lines = one_more t.lines 
 counted t (reports.Job j) = counted_job t (is_refused_elsewhere j)
 counted t (reports.Refused start end why) = record t { lines = one_more t.lines; refused = one_more t.refused }
 
--- `many-lines`: the line after so many of a file is the first for which cron ignores it as too long
+-- the line after so many of a file is the first that stands after the last one that cron itself takes
+abbrev pub is_first_late : ℕ → Line → File → Bool
+is_first_late lines line f = not f.has_late && is_late (one_more lines) line
+
+-- `many-lines`: the line after so many of a file is the first for which it is too long
 abbrev pub is_too_many : Dialect → ℕ → Line → File → Bool
-is_too_many dialects.User lines line f = is_first_too_many lines
-is_too_many dialects.System lines line f = not f.has_late && is_late (one_more lines) line
+is_too_many dialects.User lines line f = if is_installed f.name then is_first_late lines line f else is_first_too_many lines
+is_too_many dialects.System lines line f = is_first_late lines line f
 is_too_many dialects.Patterns lines line f = false
 
 -- a line is warned of, which may be the first that is too many. One that is refused has no other warning
@@ -53,9 +58,9 @@ one_more_if counts n = if counts then one_more n else n
 abbrev pub added : Bool → Tally → Report → Tally
 added is_too_many t report = record (counted t report) { warned = one_more_if (is_line_warned is_too_many report) t.warned }
 
--- with one more file, which cron ignores as a whole or doesn't, and whose name it passes over or doesn't: that is a warning
+-- with one more file, which cron ignores as a whole or doesn't, and which has a warning for its name or hasn't
 abbrev pub with_file : Bool → Bool → Tally → Tally
-with_file is_ignored is_passed_over t = record t { ignored = one_more_if is_ignored t.ignored; warned = one_more_if is_passed_over t.warned }
+with_file is_ignored is_name_warned t = record t { ignored = one_more_if is_ignored t.ignored; warned = one_more_if is_name_warned t.warned }
 
 -- a line is refused, cron ignores a whole file, or a line has a warning where the call is strict
 abbrev pub has_findings : Bool → Tally → Bool

@@ -1,10 +1,10 @@
 //! The files of a call, one after the other.
-ghost use Rattle.std.specs.Prelude.{◌≡◌, ℕ, true, false, List, map, string_bytes, IfOk, IsPermutation, IsSorted, if◌then◌else◌};
+ghost use Rattle.std.specs.Prelude.{◌≡◌, ℕ, true, false, List, map, option_map, string_bytes, IfOk, IsPermutation, IsSorted, if◌then◌else◌};
 ghost use Rattle.std.specs.declared.alloc.Global.{Global};
 ghost use Rattle.std.specs.declared.string.String.{String};
 ghost use Rattle.std.specs.String.{string_cmp};
 ghost use Rattle.crontab.specs.Checked.{TakesInTurn};
-ghost use Rattle.croncheck_reading.specs.Files.{Contents, HaveContents, noun_of, summary_of, warned_text, files_noun, ignored_text};
+ghost use Rattle.croncheck_reading.specs.Files.{Contents, HaveContents, noun_of, summary_of, warned_text, files_noun, ignored_text, files_text, zone_text};
 ghost use Rattle.croncheck_files.specs.Names.{asked_seen};
 ghost use Rattle.croncheck_output.specs.Output.{IsFlushed};
 ghost use Rattle.croncheck_reading.specs.Tally.{status_of};
@@ -84,8 +84,8 @@ pub trait Sources {
 /// read. A file fails if it isn't opened or isn't read to its end, and a folder if it isn't listed.
 ///
 /// The name of what fails is written to `notes` with the reason, and so is the name of what isn't read, and of a folder without a file that
-/// is; at the end follows how many jobs were read, how many lines are refused, how many have warnings, and how many files cron ignores. An
-/// error of `notes` is passed over.
+/// is; at the end follows how many jobs were read, how many lines are refused, how many have warnings, and how many files cron ignores; where
+/// the terms name the zone, also how many files were told, and that name. An error of `notes` is passed over.
 ///
 /// The error is that of what is written to, or says that memory is lacking.
 pub fn tell_files<'s, 't, S: Sources, F: Form, W: Write, N: Write>(
@@ -330,7 +330,8 @@ fn conclude<'s, 't, F: Form, W: Write, N: Write>(
 {
     sink.end(terms)?;
     let tally = sink.progress.tally;
-    let summary = summary_of(terms.alloc, tally)?;
+    let (zone, files) = (terms.shared.zone_name, sink.progress.files);
+    let summary = summary_of(terms.alloc, zone, files, tally)?;
     let _ = notes.write_all(summary.as_bytes());
     Ok(status_of(tally, is_failed, terms.settings.is_strict))
 }
@@ -365,15 +366,20 @@ fn note<N: Write>(
 
 // What is said of the name of a file that isn't there, where a pattern or a command may have been meant.
 fn hint_of_name(name: &str) -> &'static str {
-    if name.is_empty() {
+    if name.is_empty() || begins_as_path(name) {
         ""
     } else if has_letters_alone(name) {
         "; the commands are check, show, plan, next and describe"
     } else if may_be_pattern(name) {
-        "; a pattern follows a command, in quotes: croncheck next '*/5 * * * *'"
+        "; write a line in quotes: croncheck '*/5 * * * *'"
     } else {
         ""
     }
+}
+
+// Whether a name is a path by its first sign, and no line of a crontab.
+fn begins_as_path(name: &str) -> bool {
+    name.starts_with('/') || name.starts_with('.') || name.starts_with('~')
 }
 
 fn has_letters_alone(name: &str) -> bool {
@@ -391,17 +397,50 @@ fn may_be_pattern(name: &str) -> bool {
         || !bytes.iter().any(|byte| byte.is_ascii_alphabetic())
 }
 
-// How many jobs were read, how many lines are refused, how many have warnings, and how many files cron ignores as wholes.
-fn summary_of(alloc: Global, tally: Tally) -> Result<String, AllocError>
-    ensures { IfOk result (λ text. string_bytes text ≡ summary_of tally) }
+// How many jobs were read, how many lines are refused, how many have warnings, and how many files cron ignores as wholes; where the zone
+// is named, also how many files were told, and its name.
+fn summary_of(
+    alloc: Global,
+    zone: Option<&str>,
+    files: u64,
+    tally: Tally,
+) -> Result<String, AllocError>
+    ensures { IfOk result (λ text. string_bytes text ≡ summary_of (option_map (λ zone. zone.now) zone.entry) files tally) }
 {
+    let files = files_text(alloc, zone, files)?;
+    let files = files.as_str();
     let (jobs, refused) = (tally.jobs, tally.refused);
     let noun = noun_of(jobs);
     let warned = warned_text(alloc, tally.warned)?;
     let warned = warned.as_str();
     let ignored = ignored_text(alloc, tally.ignored)?;
     let ignored = ignored.as_str();
-    format!(in alloc; "{jobs} {noun}, {refused} refused{warned}{ignored}\n")
+    let zone = zone_text(alloc, zone)?;
+    let zone = zone.as_str();
+    format!(in alloc; "{files}{jobs} {noun}, {refused} refused{warned}{ignored}{zone}\n")
+}
+
+// How many files were told, where the zone is named.
+fn files_text(alloc: Global, zone: Option<&str>, files: u64) -> Result<String, AllocError>
+    ensures { IfOk result (λ text. string_bytes text ≡ files_text (option_map (λ zone. zone.now) zone.entry) files) }
+{
+    match zone {
+        Some(_) => {
+            let noun = files_noun(files);
+            format!(in alloc; "{files} {noun}, ")
+        }
+        None => Ok(String::new(alloc)),
+    }
+}
+
+// The name of the zone, where it is named.
+fn zone_text(alloc: Global, zone: Option<&str>) -> Result<String, AllocError>
+    ensures { IfOk result (λ text. string_bytes text ≡ zone_text (option_map (λ zone. zone.now) zone.entry)) }
+{
+    match zone {
+        Some(zone) => format!(in alloc; ", zone {zone}"),
+        None => Ok(String::new(alloc)),
+    }
 }
 
 // How many lines have warnings, if some have.

@@ -1,14 +1,14 @@
 //! What takes the lines of files and tells of them in a form.
 ghost use Rattle.std.specs.Prelude.{◌≡◌, false, OnOk, IfSome};
 ghost use Rattle.croncheck_output.specs.Output.{IsFlushed};
-ghost use Rattle.croncheck_output.specs.Escaped.{bytes_shown};
+ghost use Rattle.croncheck_output.specs.Builds.{path_shown};
 ghost use Rattle.croncheck_reading.specs.Sink.{State, StandsAtBegin, state_of, Ends, IsToldFile, IsPassedOver};
 ghost use Rattle.croncheck_reading.specs.Stand.{stand_of, end_of_file};
 
 use crate::form::Form;
 use crate::progress::{Line, Progress, Terms};
 use croncheck_files::fitness::Unfit;
-use croncheck_output::escaped::shown_text;
+use croncheck_output::builds::path_text;
 use croncheck_output::output::Output;
 use crontab::check::{Entries, check};
 use crontab::line::{Dialect, Entry};
@@ -87,11 +87,11 @@ impl<'s, 't, F: Form, W: Write> Sink<'s, 't, F, W> {
         reader: &mut R,
     ) -> io::Result<()>
         ensures { OnOk result (IfSome (R.remaining reader.old) (λ text.
-            IsToldFile (F.takes terms.entry) (F.ends_file terms.entry) terms.entry.settings.now.dialect (bytes_shown name.now) unfit text
+            IsToldFile (F.takes terms.entry) (F.ends_file terms.entry) terms.entry.settings.now.dialect (path_shown name.now) unfit text
             (state_of W.contents self.old.form self.old.progress self.old.output) (state_of W.contents self.new.form self.new.progress self.new.output))) }
     {
         self.terms = terms;
-        let name = shown_text(terms.alloc, name.as_bytes())?;
+        let name = path_text(terms.alloc, name.as_bytes())?;
         self.progress.begin(name, unfit);
         check(terms.alloc, terms.settings.dialect, reader, self)?;
         self.form
@@ -104,10 +104,10 @@ impl<'s, 't, F: Form, W: Write> Sink<'s, 't, F, W> {
     ///
     /// The error is that of the writer, or says that memory is lacking.
     pub fn pass_over(&mut self, terms: Terms<'s, 't>, name: &str) -> io::Result<()>
-        ensures { OnOk result (IsPassedOver (F.ends_file terms.entry) terms.entry.settings.now.dialect (bytes_shown name.now)
+        ensures { OnOk result (IsPassedOver (F.ends_file terms.entry) terms.entry.settings.now.dialect (path_shown name.now)
             (state_of W.contents self.old.form self.old.progress self.old.output) (state_of W.contents self.new.form self.new.progress self.new.output)) }
     {
-        let name = shown_text(terms.alloc, name.as_bytes())?;
+        let name = path_text(terms.alloc, name.as_bytes())?;
         self.progress.begin_passed_over(name);
         self.form
             .end_file(&terms, &self.progress, &mut self.output)?;
@@ -128,14 +128,13 @@ impl<'s, 't, F: Form, W: Write> Sink<'s, 't, F, W> {
     }
 }
 
-// Counts the file whose end was told, if cron ignores it as a whole.
+// Counts the file whose end was told, if cron ignores it as a whole or for its name.
 fn count_file(progress: &mut Progress, dialect: Dialect)
     ensures { stand_of progress.new ≡ end_of_file dialect (stand_of progress.old) }
 {
     let is_ignored = progress.file.is_ignored(dialect, progress.lines);
-    progress
-        .tally
-        .end_file(is_ignored, progress.file.is_passed_over());
+    let is_name_warned = progress.file.has_warned_name(dialect);
+    progress.tally.end_file(is_ignored, is_name_warned);
 }
 
 impl<'s, 't, F: Form, W: Write> Entries for Sink<'s, 't, F, W> {

@@ -2,7 +2,7 @@
 ghost use Rattle.std.specs.Prelude.{◌≡◌};
 ghost use Rattle.crontab.specs.Entries.{entry_seen};
 ghost use Rattle.croncheck_report.specs.FileSeen.{file_seen};
-ghost use Rattle.croncheck_reading.specs.Tally.{one_more, none_counted, counted, is_too_many, is_line_warned, one_more_if, added, with_file, status_of};
+ghost use Rattle.croncheck_reading.specs.Tally.{one_more, none_counted, counted, is_first_late, is_too_many, is_line_warned, one_more_if, added, with_file, status_of};
 
 use croncheck_report::file_seen::{FileSeen, is_late, is_refused};
 use croncheck_report::report::Report;
@@ -60,13 +60,13 @@ impl Tally {
         }
     }
 
-    /// Counts a file whose end was told: among the ignored ones if cron ignores it as a whole, and as a warning if cron passes over
-    /// it for its name. No count passes 2^64 - 1.
-    pub fn end_file(&mut self, is_ignored: bool, is_passed_over: bool)
-        ensures { self.new ≡ with_file is_ignored is_passed_over self.old }
+    /// Counts a file whose end was told: among the ignored ones if cron ignores it as a whole, and as a warning if it has one for its
+    /// name. No count passes 2^64 - 1.
+    pub fn end_file(&mut self, is_ignored: bool, is_name_warned: bool)
+        ensures { self.new ≡ with_file is_ignored is_name_warned self.old }
     {
         self.ignored = one_more_if(is_ignored, self.ignored);
-        self.warned = one_more_if(is_passed_over, self.warned);
+        self.warned = one_more_if(is_name_warned, self.warned);
     }
 
     /// The status of a call, if all could be read and written: 1 where a line is refused, where cron ignores a whole file, or where a
@@ -89,15 +89,28 @@ fn is_line_warned(is_too_many: bool, report: &Report<'_, '_>) -> bool
     report.has_warnings() && !is_refused(report) || is_too_many
 }
 
-/// Whether the line after `lines` lines of a file is the first one for which cron ignores the file as too long.
+/// Whether the line after `lines` lines of a file is the first one for which the file is too long.
 pub fn is_too_many(dialect: Dialect, lines: u64, entry: &Entry<'_>, file: &FileSeen) -> bool
     ensures { result ≡ is_too_many dialect lines (entry_seen entry.now) (file_seen file.now) }
 {
     match dialect {
-        Dialect::User => is_first_too_many(lines),
-        Dialect::System => !file.has_late() && is_late(one_more(lines), entry),
+        Dialect::User => {
+            if file.is_installed() {
+                is_first_late(lines, entry, file)
+            } else {
+                is_first_too_many(lines)
+            }
+        }
+        Dialect::System => is_first_late(lines, entry, file),
         Dialect::Patterns => false,
     }
+}
+
+// Whether the line after `lines` lines of a file is the first job or setting after the last line at which cron itself takes one.
+fn is_first_late(lines: u64, entry: &Entry<'_>, file: &FileSeen) -> bool
+    ensures { result ≡ is_first_late lines (entry_seen entry.now) (file_seen file.now) }
+{
+    !file.has_late() && is_late(one_more(lines), entry)
 }
 
 // One more, if it counts.

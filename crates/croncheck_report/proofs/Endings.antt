@@ -6,7 +6,7 @@ use Rattle.croncheck_report.specs.FileSeen.{File, has_many_lines, if_so, ignored
 
 -- the reasons, one put after the other
 pub reasons_after : (f : File) (dialect : Dialect) (lines : ℕ) (name : List ℕ) (many : Bool) (said none at_first one two all : List ℕ)
-    → name ≡ f.name → many ≡ has_many_lines dialect lines f → said ≡ many_lines_text dialect ++ codes " (many-lines)\n" → none ≡ []
+    → name ≡ f.name → many ≡ has_many_lines dialect lines f → said ≡ many_lines_text dialect f ++ codes " (many-lines)\n" → none ≡ []
     → at_first ≡ none ++ unfit_reason name f.unfit
     → one ≡ at_first ++ if_so f.has_refused (ignored name (codes "a line is refused\n"))
     → two ≡ one ++ if_so f.is_unfed (ignored name (codes "its last line has no line feed (no-newline)\n"))

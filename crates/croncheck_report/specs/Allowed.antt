@@ -29,7 +29,7 @@ allowable =
     ∷ codes "whole-hour" ∷ codes "short-months" ∷ codes "gone" ∷ codes "never" ∷ codes "no-command" ∷ codes "looks-like-field" ∷ codes "user"
     ∷ codes "percent" ∷ codes "continued" ∷ codes "control-byte" ∷ codes "carriage-return" ∷ codes "empty-item" ∷ codes "other-name"
     ∷ codes "preset"
-    ∷ codes "no-zone" ∷ codes "not-expanded" ∷ codes "no-mail" ∷ codes "gap" ∷ codes "twice" ∷ codes "same-job" ∷ []
+    ∷ codes "no-zone" ∷ codes "no-effect" ∷ codes "not-expanded" ∷ codes "no-mail" ∷ codes "gap" ∷ codes "twice" ∷ codes "same-job" ∷ []
 
 -- a name is among these
 abbrev pub is_listed : List (List ℕ) → List ℕ → Bool
@@ -118,6 +118,7 @@ warnings_left s above warnings = filter (λ w. not (is_allowed s above (warning_
 abbrev pub setting_left : Settings → List (List ℕ) → SettingReport → SettingReport
 setting_left s above seen = record {
   is_zone = seen.is_zone && not (is_allowed s above (other_name others.NoZone));
+  has_no_effect = seen.has_no_effect && not (is_allowed s above (other_name others.NoEffect));
   is_not_expanded = seen.is_not_expanded && not (is_allowed s above (other_name others.NotExpanded));
   sends_no_mail = seen.sends_no_mail && not (is_allowed s above (other_name others.NoMail));
   is_hiding = seen.is_hiding && not (is_allowed s above (other_name others.ControlByte));
@@ -151,7 +152,6 @@ pub record IsJobLeft (s : Settings) (above : List (List ℕ)) (old new : JobRepo
   pub user : new.user ≡ old.user
   pub command : new.command ≡ old.command
   pub times : new.times ≡ old.times
-  pub dates : new.dates ≡ old.dates
   pub same : new.same ≡ (if is_allowed s above (codes "same-job") then None else old.same)
   pub meetings : new.meetings ≡ meetings_left s above old.meetings
   pub warnings : new.warnings.items ≡ warnings_left s above old.warnings.items

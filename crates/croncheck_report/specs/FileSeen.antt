@@ -9,6 +9,8 @@ use Rattle.croncheck_report.specs.declared.report.Report.TheVariants as reports
 use Rattle.croncheck_report.specs.Report.{is_refused_elsewhere}
 use Rattle.crontab.specs.Line.{Line, blank, comment, setting, job, pattern, refused}
 use Rattle.croncheck_files.specs.Fitness.{unfit_line}
+use Rattle.croncheck_files.specs.Folder.{is_misnamed}
+use Rattle.croncheck_files.specs.Names.{is_installed}
 use Rattle.croncheck_warnings.specs.Warnings.{are_many_lines, is_after_last, is_continued}
 
 -- a line counts for cron where no line feed ends it: it is neither blank nor a comment
@@ -31,7 +33,7 @@ is_refused (reports.Refused start end why) = true
 -- ---- the file
 
 -- what contracts see of a file: its name as it is shown, that a line of it is refused, that its last line has no line feed and counts, that
--- cron passes over it for its name, that a line which counts stands after the last one that cron takes in a crontab of the system, why
+-- cron passes over it for its name, that a line which counts stands after the last one that cron itself takes, why
 -- cron ignores it by what the file system says of it, if it does, and that its last line seems to go on in the next
 pub record File : Type 0 where
   pub name : List ℕ
@@ -66,7 +68,7 @@ unread_of name unfit = record (unread name) { unfit = unfit }
 abbrev pub of_passed_over : List ℕ → File
 of_passed_over name = record (unread name) { is_passed_over = true }
 
--- a job or a setting at this line, counted from 1, stands after the last one that cron takes in a crontab of the system
+-- a job or a setting at this line, counted from 1, stands after the last one that cron itself takes
 abbrev pub is_late : ℕ → Line → Bool
 is_late number line = counts line && is_after_last number
 
@@ -101,17 +103,22 @@ ignored name reason = name ++ (codes ": cron ignores the whole file: " ++ reason
 abbrev pub if_so : Bool → List ℕ → List ℕ
 if_so holds text = if holds then text else []
 
--- `many-lines`: a file of so many lines has too many: a user's counts its lines, the system's has to end its jobs and settings in time
+-- `many-lines`: a file of so many lines has too many. `crontab` counts all lines of a user's. Cron itself reads one of the system, and one that is
+-- installed: that has to end its jobs and settings in time
 abbrev pub has_many_lines : Dialect → ℕ → File → Bool
-has_many_lines dialects.User lines f = are_many_lines lines
+has_many_lines dialects.User lines f = if is_installed f.name then f.has_late else are_many_lines lines
 has_many_lines dialects.System lines f = f.has_late
 has_many_lines dialects.Patterns lines f = false
 
+-- what is said of one that cron itself reads
+abbrev pub late_text : List ℕ
+late_text = codes "a job or a setting stands after line 10003"
+
 -- what is said of it
-abbrev pub many_lines_text : Dialect → List ℕ
-many_lines_text dialects.User = codes "it has more than 10000 lines"
-many_lines_text dialects.System = codes "a job or a setting stands after line 10003"
-many_lines_text dialects.Patterns = []
+abbrev pub many_lines_text : Dialect → File → List ℕ
+many_lines_text dialects.User f = if is_installed f.name then late_text else codes "it has more than 10000 lines"
+many_lines_text dialects.System f = late_text
+many_lines_text dialects.Patterns f = []
 
 -- what is said of a file of this name that cron ignores for what the file system says of it, if it does
 abbrev pub unfit_reason : List ℕ → Option Unfit → List ℕ
@@ -134,7 +141,7 @@ abbrev pub reasons_of : Dialect → ℕ → File → List ℕ
 reasons_of dialect lines f =
     ((unfit_reason f.name f.unfit ++ if_so f.has_refused (ignored f.name (codes "a line is refused\n")))
     ++ if_so f.is_unfed (ignored f.name (codes "its last line has no line feed (no-newline)\n")))
-    ++ if_so (has_many_lines dialect lines f) (ignored f.name (many_lines_text dialect ++ codes " (many-lines)\n"))
+    ++ if_so (has_many_lines dialect lines f) (ignored f.name (many_lines_text dialect f ++ codes " (many-lines)\n"))
 
 -- the same of a file, which may be one of patterns: cron doesn't read it
 abbrev pub whole_of : Dialect → ℕ → File → List ℕ
@@ -147,6 +154,24 @@ abbrev pub name_text : List ℕ → List ℕ
 name_text name =
     name ++ codes ": warning: file-name: cron passes over a file of this name, and no line of it is read here: write letters, digits, _ and - alone\n"
 
+-- the file is a crontab of the system, which cron ignores for its name
+abbrev pub is_misnamed_as : Dialect → File → Bool
+is_misnamed_as dialects.User f = false
+is_misnamed_as dialects.System f = is_misnamed f.name
+is_misnamed_as dialects.Patterns f = false
+
+-- the file has the warning `file-name`, whether its lines were read or not
+abbrev pub has_warned_name : Dialect → File → Bool
+has_warned_name dialect f = f.is_passed_over || is_misnamed_as dialect f
+
+-- `file-name`: what is said of a file of this name, whose lines were read
+abbrev pub misnamed_text : List ℕ → List ℕ
+misnamed_text name = name ++ codes ": warning: file-name: cron passes over a file of this name: write letters, digits, _ and - alone\n"
+
+-- what is said of a file of so many lines as a whole, whose lines were read
+abbrev pub read_ending_of : Dialect → ℕ → File → List ℕ
+read_ending_of dialect lines f = if_so (is_misnamed_as dialect f) (misnamed_text f.name) ++ whole_of dialect lines f
+
 -- what is said of a file of so many lines as a whole
 abbrev pub ending_of : Dialect → ℕ → File → List ℕ
-ending_of dialect lines f = if f.is_passed_over then name_text f.name else whole_of dialect lines f
+ending_of dialect lines f = if f.is_passed_over then name_text f.name else read_ending_of dialect lines f

@@ -1,11 +1,7 @@
 -- What a line is told. Source: this crate's documentation of `Report`.
-use Rattle.std.specs.Prelude.{◌≡◌, ◌⊎◌, ◌<◌, get_or, not, ◌||◌, ◌==◌, ℕ, ◌+◌, Bool, true, false, List, [], ◌++◌, length, map, Option, Some, None, option_map, is_some, Result, Ok, Err, string_bytes, IsUtf8, if◌then◌else◌}
+use Rattle.std.specs.Prelude.{◌≡◌, not, ◌||◌, ◌==◌, ℕ, ◌+◌, Bool, true, false, List, [], ◌++◌, length, map, Option, Some, None, option_map, is_some, Result, Ok, Err, string_bytes, IsUtf8, if◌then◌else◌}
 use Rattle.std.specs.List.{list_any}
 use Rattle.croner_base.specs.declared.errors.CronError.{CronError}
-use Rattle.croner_base.specs.declared.time.civil.CivilDateTime.{CivilDateTime}
-use Rattle.croner_base.specs.Civil.{wall_second, weekday_of_second}
-use Rattle.croner_base.specs.TableZone.{table_moment}
-use Rattle.croner_base.specs.Zone.{reading}
 use Rattle.croner_pattern.specs.Meaning.{Meaning}
 use Rattle.croner.specs.declared.parser.fault.PatternFault.{PatternFault}
 use Rattle.croner.specs.parser.Grammar.{Refusal, outcome, Texts}
@@ -28,17 +24,16 @@ use Rattle.croncheck_report.specs.declared.report.Same.{Same}
 use Rattle.croncheck_report.specs.declared.report.SettingReport.{SettingReport}
 use Rattle.croncheck_report.specs.declared.report.Why.TheVariants as whys
 use Rattle.croncheck_report.specs.declared.report.Why.{Why}
-use Rattle.croncheck_runs.specs.declared.runs.Run.{Run}
 use Rattle.croncheck_runs.specs.declared.runs.Runner.{Runner}
 use Rattle.croncheck_runs.specs.declared.runs.Runner.TheVariants as runners
 use Rattle.croncheck_report.specs.declared.settings.Settings.{Settings}
 use Rattle.croncheck_report.specs.declared.told.Told.TheVariants as tolds
 use Rattle.croncheck_report.specs.declared.told.Told.{Told}
 use Rattle.croncheck_warnings.specs.declared.warnings.Warning.{Warning}
-use Rattle.croncheck_warnings.specs.declared.warnings.sides.Dates.{Dates}
 use Rattle.croncheck_report.specs.Allowed.{unknown_name_in}
 use Rattle.croncheck_changes.specs.Changes.{AreMeetings, none_met, are_warned}
-use Rattle.croncheck_warnings.specs.Hidden.{has_hidden}
+use Rattle.croncheck_warnings.specs.Effect.{has_no_effect}
+use Rattle.croncheck_warnings.specs.Hidden.{has_hidden_within}
 use Rattle.croncheck_warnings.specs.Mail.{names_no_address}
 use Rattle.croncheck_report.specs.Settings.{start_of}
 use Rattle.croncheck_report.specs.Told.{TellsMeaning, TellsTiming, cron_of, is_at_window_end, is_never, is_told_past, is_idle}
@@ -47,7 +42,7 @@ use Rattle.croncheck_warnings.specs.declared.presets.Reading.{Reading}
 use Rattle.croncheck_warnings.specs.declared.warnings.Warning.TheVariants as warnings
 use Rattle.croncheck_warnings.specs.Presets.{AreReadings}
 use Rattle.croner_presets.specs.declared.preset.Preset.{Preset}
-use Rattle.croncheck_warnings.specs.Warnings.{fields_of_schedule, AreFieldsOfPattern, is_either_day, IsMonthOf, NamesDates, Subject, warnings_of, is_refusal_elsewhere}
+use Rattle.croncheck_warnings.specs.Warnings.{fields_of_schedule, AreFieldsOfPattern, Subject, warnings_of, is_refusal_elsewhere}
 
 -- ---- warnings
 
@@ -112,54 +107,22 @@ MeetsJob s task told met = TellsChanges s (cron_of task.schedule) (meaning_of_ti
 abbrev pub MeetsPattern : Settings → Option Meaning → Told → Meetings → Type 0
 MeetsPattern s meaning told met = TellsChanges s runners.Croner meaning told met
 
--- ---- the dates of either day field
-
--- runs are listed, and this is the first
-abbrev pub IsFirstListed : Told → Run → Type 0
-IsFirstListed tolds.Reboot run = ⊥
-IsFirstListed tolds.Nothing run = ⊥
-IsFirstListed (tolds.Runs text runs previous often is_past) run = (0 < length runs.items.items) × (get_or runs.items.items 0 run ≡ run)
-
--- runs are listed
-abbrev pub has_listed : Told → Bool
-has_listed tolds.Reboot = false
-has_listed tolds.Nothing = false
-has_listed (tolds.Runs text runs previous often is_past) = not (length runs.items.items == 0)
-
--- the days of the month of a run that each day field names by itself
-pub record AreDatesAt (m : Meaning) (told : Told) (d : Dates) (run : Run) (shown : CivilDateTime) : Type 0 where
-  pub first : IsFirstListed told run
-  pub shows : wall_second shown ≡ reading (table_moment run.time)
-  pub month : IsMonthOf shown.date (weekday_of_second (reading (table_moment run.time))) d.month
-  pub names : NamesDates m d
-
--- what a job of this meaning that was told so is told of its dates: where it runs on either day, those of the month of its first listed run
-abbrev pub TellsDates : Meaning → Told → Option Dates → Type 0
-TellsDates m told None = (is_either_day m ≡ false) ⊎ (has_listed told ≡ false)
-TellsDates m told (Some d) = (is_either_day m ≡ true) × ((run : Run) × (shown : CivilDateTime) × AreDatesAt m told d run shown)
-
--- the same, where it may have no meaning
-abbrev pub DatesOf : Option Meaning → Told → Option Dates → Type 0
-DatesOf None told dates = dates ≡ None
-DatesOf (Some m) told dates = TellsDates m told dates
-
 -- how many blanks stand in front of a line
 abbrev pub blanks_of : List ℕ → ℕ
 blanks_of line = length (front kinds.Blank line)
 
 -- ---- the report of a job
 
--- a job's report has these texts, its times are told so, these are its warnings, and this is told of changes of the clock and of its dates.
+-- a job's report has these texts, its times are told so, these are its warnings, and this is told of changes of the clock.
 -- Whether an earlier job is the same, it doesn't say
 pub record IsJobTold (schedule : List ℕ) (user command : Option (List ℕ)) (tells : Told → Type 0) (warns : Told → List Warning → Type 0)
-    (meets : Told → Meetings → Type 0) (dates_are : Told → Option Dates → Type 0) (j : JobReport) : Type 0 where
+    (meets : Told → Meetings → Type 0) (j : JobReport) : Type 0 where
   pub schedule_is : j.schedule.now ≡ schedule
   pub user_is : option_map (λ u. u.now) j.user ≡ user
   pub command_is : option_map (λ c. c.now) j.command ≡ command
   pub tells_times : tells j.times
   pub warned : warns j.times j.warnings.items
   pub met : meets j.times j.meetings
-  pub dated : dates_are j.times j.dates
 
 -- the parser refuses the text that a job's times were made into with an error of this kind
 abbrev pub IsUnreadTiming : Timing → CronError → Type 0
@@ -190,8 +153,7 @@ IsReportOfJob is_fed s blanks task reports.Silent = ⊥
 IsReportOfJob is_fed s blanks task (reports.Misnamed name) = ⊥
 IsReportOfJob is_fed s blanks task (reports.Setting seen has_feed) = ⊥
 IsReportOfJob is_fed s blanks task (reports.Job j) =
-    IsJobTold task.schedule task.user (Some task.command) (TellsTiming s task.schedule task.times) (WarnsJob is_fed (users_seen s.users) task) (MeetsJob s task)
-    (DatesOf (meaning_of_timing task.times)) j
+    IsJobTold task.schedule task.user (Some task.command) (TellsTiming s task.schedule task.times) (WarnsJob is_fed (users_seen s.users) task) (MeetsJob s task) j
 IsReportOfJob is_fed s blanks task (reports.Refused start end why) = IsWholeAfter blanks task.schedule start end × IsJobRefused task why
 
 -- the user of a job is refused, at its name
@@ -223,7 +185,7 @@ IsReportOfPattern is_fed s blanks text (reports.Misnamed name) = ⊥
 IsReportOfPattern is_fed s blanks text (reports.Setting seen has_feed) = ⊥
 IsReportOfPattern is_fed s blanks text (reports.Job j) =
     IsJobTold text None None (TellsMeaning s runners.Croner (outcome s.parser text)) (WarnsPattern s.preset is_fed text (meaning_read (outcome s.parser text)))
-    (MeetsPattern s (meaning_read (outcome s.parser text))) (DatesOf (meaning_read (outcome s.parser text))) j
+    (MeetsPattern s (meaning_read (outcome s.parser text))) j
 IsReportOfPattern is_fed s blanks text (reports.Refused start end why) = IsPatternRefused s blanks text start end why
 
 -- ---- a setting
@@ -232,14 +194,15 @@ IsReportOfPattern is_fed s blanks text (reports.Refused start end why) = IsPatte
 abbrev pub setting_found : Bool → List ℕ → SettingReport
 setting_found is_zone line = record {
   is_zone = is_zone;
+  has_no_effect = has_no_effect (text_after kinds.Blank line);
   is_not_expanded = is_not_expanded (text_after kinds.Blank line);
   sends_no_mail = names_no_address (text_after kinds.Blank line);
-  is_hiding = has_hidden (text_after kinds.Blank line);
+  is_hiding = has_hidden_within (text_after kinds.Blank line);
 }
 
 -- any of these is found
 abbrev pub is_setting_found : SettingReport → Bool
-is_setting_found s = s.is_zone || (s.is_not_expanded || (s.sends_no_mail || s.is_hiding))
+is_setting_found s = s.is_zone || (s.has_no_effect || (s.is_not_expanded || (s.sends_no_mail || s.is_hiding)))
 
 -- ---- a line
 

@@ -19,7 +19,7 @@ use std::alloc::{AllocError, Global};
 /// The names of the warnings that may be allowed, in the order of the table in docs/CRONTAB.md.
 ///
 /// That a crontab's last line has no line feed, or that it has too many lines, can't be allowed: cron ignores such a file.
-pub const ALLOWABLE: [&str; 26] = [
+pub const ALLOWABLE: [&str; 27] = [
     "either-day",
     "uneven-step",
     "step-beyond",
@@ -41,6 +41,7 @@ pub const ALLOWABLE: [&str; 26] = [
     "other-name",
     PRESET,
     "no-zone",
+    "no-effect",
     "not-expanded",
     "no-mail",
     "gap",
@@ -109,6 +110,7 @@ fn setting_left(settings: &Settings<'_>, above: &[&str], seen: SettingReport) ->
 {
     SettingReport {
         is_zone: is_left(settings, above, seen.is_zone, OtherWarning::NoZone),
+        has_no_effect: is_left(settings, above, seen.has_no_effect, OtherWarning::NoEffect),
         is_not_expanded: is_left(
             settings,
             above,

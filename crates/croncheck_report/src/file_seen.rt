@@ -1,14 +1,23 @@
 //! What was seen of the file that is read, and what cron makes of it as a whole.
 ghost use Rattle.std.specs.Prelude.{◌≡◌, ◌++◌, codes, IfOk, OnOk, string_bytes};
 ghost use Rattle.crontab.specs.Entries.{entry_seen};
-ghost use Rattle.croncheck_report.specs.FileSeen.{file_seen, unread_of, of_passed_over, with_line, with_report, counts, is_refused, if_so, ignored, unfit_reason, is_ignored, name_text, reasons_of, whole_of, ending_of, is_late, is_open, has_many_lines, many_lines_text};
+ghost use Rattle.croncheck_report.specs.FileSeen.{file_seen, unread_of, of_passed_over, with_line, with_report, counts, is_refused, if_so, ignored, unfit_reason, is_ignored, name_text, is_misnamed_as, has_warned_name, misnamed_text, read_ending_of, reasons_of, whole_of, ending_of, is_late, is_open, has_many_lines, many_lines_text};
+ghost use Rattle.croncheck_files.specs.Names.{is_installed};
 
 use crate::report::Report;
 use croncheck_files::fitness::Unfit;
+use croncheck_files::folder::is_misnamed;
+use croncheck_files::names::is_installed;
 use croncheck_warnings::warnings::command::is_continued;
 use croncheck_warnings::warnings::{are_many_lines, is_after_last};
 use crontab::line::{Dialect, Entry};
 use std::alloc::{AllocError, Global};
+
+/// What is said of a crontab that cron itself reads, and that is too long.
+const LATE_TEXT: &str = "a job or a setting stands after line 10003";
+
+/// The same as a line, with the name of the warning.
+const LATE_LINE: &str = "a job or a setting stands after line 10003 (many-lines)\n";
 
 /// What was seen of the lines of a file.
 #[derive(Drop)]
@@ -20,7 +29,7 @@ pub struct FileSeen {
     is_unfed: bool,
     // Cron passes over it for its name, so that none of its lines is read.
     is_passed_over: bool,
-    // A job or a setting stands after the last line at which cron takes one in a crontab of the system.
+    // A job or a setting stands after the last line at which cron itself takes one.
     has_late: bool,
     // Why cron ignores it by what the file system says of it, if it does.
     unfit: Option<Unfit>,
@@ -81,11 +90,18 @@ impl FileSeen {
         self.is_unfed
     }
 
-    /// A job or a setting stands after the last line at which cron takes one in a crontab of the system.
+    /// A job or a setting stands after the last line at which cron itself takes one.
     pub fn has_late(&self) -> bool
         ensures { result ≡ (file_seen self.now).has_late }
     {
         self.has_late
+    }
+
+    /// By its name it is a crontab of a user that is installed: cron itself reads it, and no longer `crontab`.
+    pub fn is_installed(&self) -> bool
+        ensures { result ≡ is_installed (file_seen self.now).name }
+    {
+        is_installed(self.name.as_str())
     }
 
     /// Why cron ignores it by what the file system says of it, if it does.
@@ -120,16 +136,29 @@ impl FileSeen {
         }
     }
 
-    /// What cron makes of the file of `lines` lines as a whole, as lines of text: that cron passes over it for its name, or a line for
-    /// each reason for which cron ignores it. Empty if cron does neither, and for a file of patterns, which cron doesn't read. The only
-    /// error is lack of memory.
+    /// What cron makes of the file of `lines` lines as a whole, as lines of text: that cron passes over it for its name, and, where its
+    /// lines were read, a line for each reason for which cron ignores it. Empty if cron does neither, and for a file of patterns, which
+    /// cron doesn't read. The only error is lack of memory.
     pub fn ending(&self, alloc: Global, dialect: Dialect, lines: u64) -> Result<String, AllocError>
         ensures { IfOk result (λ text. string_bytes text ≡ ending_of dialect lines (file_seen self.now)) }
     {
         if self.is_passed_over {
             return name_text(alloc, self.name.as_str());
         }
-        self.whole_text(alloc, dialect, lines)
+        self.read_ending(alloc, dialect, lines)
+    }
+
+    // The same of a file whose lines were read.
+    fn read_ending(&self, alloc: Global, dialect: Dialect, lines: u64) -> Result<String, AllocError>
+        ensures { IfOk result (λ text. string_bytes text ≡ read_ending_of dialect lines (file_seen self.now)) }
+    {
+        let whole = self.whole_text(alloc, dialect, lines)?;
+        if !self.is_misnamed(dialect) {
+            return Ok(whole);
+        }
+        let mut text = misnamed_text(alloc, self.name.as_str())?;
+        text.push_str(whole.as_str())?;
+        Ok(text)
     }
 
     // A line for each reason for which cron ignores the file of so many lines as a whole.
@@ -143,7 +172,24 @@ impl FileSeen {
         }
     }
 
-    /// Whether cron passes over the file for its name.
+    /// Whether the file is a crontab of the system that cron ignores for its name. Its lines were read if it was named itself.
+    pub fn is_misnamed(&self, dialect: Dialect) -> bool
+        ensures { result ≡ is_misnamed_as dialect (file_seen self.now) }
+    {
+        match dialect {
+            Dialect::System => is_misnamed(self.name.as_str()),
+            Dialect::User | Dialect::Patterns => false,
+        }
+    }
+
+    /// Whether the file has the warning `file-name`.
+    pub fn has_warned_name(&self, dialect: Dialect) -> bool
+        ensures { result ≡ has_warned_name dialect (file_seen self.now) }
+    {
+        self.is_passed_over || self.is_misnamed(dialect)
+    }
+
+    /// Whether cron passes over the file for its name, and none of its lines was read.
     pub fn is_passed_over(&self) -> bool
         ensures { result ≡ (file_seen self.now).is_passed_over }
     {
@@ -170,9 +216,53 @@ impl FileSeen {
         ensures { result ≡ has_many_lines dialect lines (file_seen self.now) }
     {
         match dialect {
-            Dialect::User => are_many_lines(lines),
+            Dialect::User => self.has_many_of_user(lines),
             Dialect::System => self.has_late,
             Dialect::Patterns => false,
+        }
+    }
+
+    // Whether a user's crontab of so many lines is too long: to `crontab`, or to cron where it is installed.
+    fn has_many_of_user(&self, lines: u64) -> bool
+        ensures { result ≡ has_many_lines Dialect.User lines (file_seen self.now) }
+    {
+        if self.is_installed() {
+            return self.has_late;
+        }
+        are_many_lines(lines)
+    }
+
+    /// What is said of the file if cron ignores it because it is too long; empty for a file of patterns.
+    pub fn many_lines_text(&self, dialect: Dialect) -> &'static str
+        ensures { result.now ≡ many_lines_text dialect (file_seen self.now) }
+    {
+        match dialect {
+            Dialect::User => {
+                if self.is_installed() {
+                    LATE_TEXT
+                } else {
+                    "it has more than 10000 lines"
+                }
+            }
+            Dialect::System => LATE_TEXT,
+            Dialect::Patterns => "",
+        }
+    }
+
+    // The same as a line, with the name of the warning.
+    fn many_lines_line(&self, dialect: Dialect) -> &'static str
+        ensures { result.now ≡ many_lines_text dialect (file_seen self.now) ++ codes " (many-lines)\n" }
+    {
+        match dialect {
+            Dialect::User => {
+                if self.is_installed() {
+                    LATE_LINE
+                } else {
+                    "it has more than 10000 lines (many-lines)\n"
+                }
+            }
+            Dialect::System => LATE_LINE,
+            Dialect::Patterns => " (many-lines)\n",
         }
     }
 
@@ -191,30 +281,8 @@ impl FileSeen {
             name,
             "its last line has no line feed (no-newline)\n",
         )?;
-        push_if(&mut text, has_many, name, many_lines_line(dialect))?;
+        push_if(&mut text, has_many, name, self.many_lines_line(dialect))?;
         Ok(text)
-    }
-}
-
-/// What is said of a file that cron ignores because it is too long; empty for a file of patterns.
-pub fn many_lines_text(dialect: Dialect) -> &'static str
-    ensures { result.now ≡ many_lines_text dialect }
-{
-    match dialect {
-        Dialect::User => "it has more than 10000 lines",
-        Dialect::System => "a job or a setting stands after line 10003",
-        Dialect::Patterns => "",
-    }
-}
-
-// The same as a line, with the name of the warning.
-fn many_lines_line(dialect: Dialect) -> &'static str
-    ensures { result.now ≡ many_lines_text dialect ++ codes " (many-lines)\n" }
-{
-    match dialect {
-        Dialect::User => "it has more than 10000 lines (many-lines)\n",
-        Dialect::System => "a job or a setting stands after line 10003 (many-lines)\n",
-        Dialect::Patterns => " (many-lines)\n",
     }
 }
 
@@ -224,6 +292,15 @@ fn name_text(alloc: Global, name: &str) -> Result<String, AllocError>
 {
     format!(in alloc;
         "{name}: warning: file-name: cron passes over a file of this name, and no line of it is read here: write letters, digits, _ and - alone\n"
+    )
+}
+
+// The same, where the lines of the file were read.
+fn misnamed_text(alloc: Global, name: &str) -> Result<String, AllocError>
+    ensures { IfOk result (λ text. string_bytes text ≡ misnamed_text name.now) }
+{
+    format!(in alloc;
+        "{name}: warning: file-name: cron passes over a file of this name: write letters, digits, _ and - alone\n"
     )
 }
 
@@ -266,8 +343,7 @@ pub fn is_refused(report: &Report<'_, '_>) -> bool
     }
 }
 
-/// Whether the line with this number, counted from 1, is a job or a setting after the last line at which cron takes one in a crontab of
-/// the system.
+/// Whether the line with this number, counted from 1, is a job or a setting after the last line at which cron itself takes one.
 pub fn is_late(number: u64, entry: &Entry<'_>) -> bool
     ensures { result ≡ is_late number (entry_seen entry.now) }
 {

@@ -6,7 +6,7 @@ ghost use Rattle.crontab.specs.Content.{IsOutcome, IsOutcomeOfTimes, IsOutcomeOf
 ghost use Rattle.crontab.specs.Entries.{entry_seen, job_seen, times_seen};
 ghost use Rattle.croncheck_report.specs.declared.settings.Settings.{Settings as Made};
 ghost use Rattle.croncheck_report.specs.Allowed.{unknown_name_in};
-ghost use Rattle.croncheck_report.specs.Report.{IsReportOfJob, IsReportOfPattern, blanks_of, IsReportOfLine, IsReportOfComment, TellsChanges, subject_of, IsWarned, WarnsPattern, TellsDates, file_and_line, earlier_of, place_for, HasNoPlace, setting_found, is_setting_found, is_refused_elsewhere, has_job_warnings, has_warnings, notes_of_job, notes_of_refusal, taken_of, notes_of_report, refused_user, IsReportBy, why_after_open_line, report_after_line};
+ghost use Rattle.croncheck_report.specs.Report.{IsReportOfJob, IsReportOfPattern, blanks_of, IsReportOfLine, IsReportOfComment, TellsChanges, subject_of, IsWarned, WarnsPattern, file_and_line, earlier_of, place_for, HasNoPlace, setting_found, is_setting_found, is_refused_elsewhere, has_job_warnings, has_warnings, notes_of_job, notes_of_refusal, taken_of, notes_of_report, refused_user, IsReportBy, why_after_open_line, report_after_line};
 ghost use Rattle.croncheck_warnings.specs.Users.{users_seen, is_unknown};
 ghost use Rattle.croncheck_warnings.specs.Starred.{is_starred};
 ghost use Rattle.croncheck_report.specs.Told.{TellsTiming};
@@ -17,18 +17,17 @@ use crate::settings::Settings;
 use crate::told::{Told, is_idle, told_of, told_of_crontab};
 use croncheck_changes::changes::meetings::Meetings;
 use croncheck_runs::runs::Runner;
+use croncheck_warnings::effect::has_no_effect;
 use croncheck_warnings::mail::names_no_address;
 use croncheck_warnings::presets::{Reading, readings_of};
 use croncheck_warnings::starred::is_starred;
 use croncheck_warnings::users::{Users, is_unknown, user_end, user_start};
 use croncheck_warnings::warnings::{
-    Dates, Fields, Subject, Warning, dates_in_month_of, fields_of_pattern, fields_of_schedule,
-    has_hidden, runs_on_either_day, warnings_of,
+    Fields, Subject, Warning, fields_of_pattern, fields_of_schedule, has_hidden_within, warnings_of,
 };
 use croner::Cron;
 use croner::errors::CronError;
 use croner::parser::PatternFault;
-use croner::time::CronDateTime;
 use croner_presets::Preset;
 use crontab::bytes::{Kind, cut};
 use crontab::content::Outcome;
@@ -85,11 +84,13 @@ impl Drop for Report<'_, '_> {
 pub struct SettingReport {
     /// The variable is `CRON_TZ` or `TZ`.
     pub is_zone: bool,
+    /// The variable is one by which other crons start jobs otherwise.
+    pub has_no_effect: bool,
     /// The value has something that a shell would expand, and that cron takes as it stands.
     pub is_not_expanded: bool,
     /// The variable is `MAILTO`, and the value is no address to which cron sends mail.
     pub sends_no_mail: bool,
-    /// The line has a byte that hides others.
+    /// The line has a byte that hides others, but for a carriage return at its end, which cron cuts off.
     pub is_hiding: bool,
 }
 
@@ -98,7 +99,11 @@ impl SettingReport {
     pub fn is_found(self) -> bool
         ensures { result ≡ is_setting_found self }
     {
-        self.is_zone || self.is_not_expanded || self.sends_no_mail || self.is_hiding
+        self.is_zone
+            || self.has_no_effect
+            || self.is_not_expanded
+            || self.sends_no_mail
+            || self.is_hiding
     }
 }
 
@@ -118,8 +123,6 @@ pub struct JobReport<'l, 't> {
     pub warnings: Vec<Warning>,
     /// What changes of the clock do to it.
     pub meetings: Meetings,
-    /// For a job that runs on either day: the days that each day field names in the month of its first listed run.
-    pub dates: Option<Dates>,
     /// The names of warnings that the comment above it allows in vain: no such warning is here, nor would one be in another call or at
     /// another time. Empty unless the call is strict.
     pub unneeded: Vec<&'static str>,
@@ -325,9 +328,10 @@ fn setting_of(is_zone: bool, line: &[u8]) -> SettingReport
     let (_, text) = cut(line, Kind::Blank);
     SettingReport {
         is_zone,
+        has_no_effect: has_no_effect(text),
         is_not_expanded: is_not_expanded(text),
         sends_no_mail: names_no_address(text),
-        is_hiding: has_hidden(text),
+        is_hiding: has_hidden_within(text),
     }
 }
 
@@ -427,7 +431,6 @@ fn report_of_parsed_job<'l, 't>(
         is_starred: crontab_job.is_starred,
     };
     let meetings = meetings_of(settings, cron, runner, &times);
-    let dates = dates_of(cron, &times)?;
     let warnings = warnings_of_job(alloc, settings.users, &job, Some(cron), &times, is_fed)?;
     Ok(Report::Job(JobReport {
         schedule: job.schedule,
@@ -437,7 +440,6 @@ fn report_of_parsed_job<'l, 't>(
         times,
         warnings,
         meetings,
-        dates,
         unneeded: Vec::new(alloc),
     }))
 }
@@ -465,7 +467,6 @@ fn report_of_no_text<'l, 't>(
         times,
         warnings,
         meetings: Meetings::none(),
-        dates: None,
         unneeded: Vec::new(alloc),
     }))
 }
@@ -488,25 +489,6 @@ fn meetings_of(settings: &Settings<'_>, job: &Cron, runner: Runner, told: &Told<
         return Meetings::none();
     }
     settings.changes.meetings_of(job, runner)
-}
-
-// The dates that are told of a job, given what is told of its times: if it runs on either day, those of the month of its first listed
-// run.
-fn dates_of(job: &Cron, told: &Told<'_>) -> Result<Option<Dates>, CronError>
-    ensures dates { IfOk result (TellsDates (meaning_of_job job.now) told.now) }
-    ensures err { IfErr result (λ e. e ≡ CronError.OutOfMemory) }
-{
-    match told {
-        Told::Reboot | Told::Nothing => Ok(None),
-        Told::Runs { runs, .. } => {
-            if runs.items.is_empty() || !runs_on_either_day(job) {
-                return Ok(None);
-            }
-            let first = &runs.items[0].time;
-            let dates = dates_in_month_of(job, first.to_civil().date(), first.civil_weekday())?;
-            Ok(Some(dates))
-        }
-    }
 }
 
 // The warnings of a job of a crontab, of whose times the parser made this job, if they have a text.
@@ -636,7 +618,6 @@ fn report_of_parsed_pattern<'l, 't>(
 {
     let times = told_of(alloc, settings, job)?;
     let meetings = meetings_of(settings, job, Runner::Croner, &times);
-    let dates = dates_of(job, &times)?;
     let warnings = warnings_of_pattern(alloc, settings.preset, text, job, &times, is_fed)?;
     Ok(Report::Job(JobReport {
         schedule: text.as_bytes(),
@@ -646,7 +627,6 @@ fn report_of_parsed_pattern<'l, 't>(
         times,
         warnings,
         meetings,
-        dates,
         unneeded: Vec::new(alloc),
     }))
 }

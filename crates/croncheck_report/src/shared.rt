@@ -27,6 +27,8 @@ pub struct Shared<'z> {
     pub followed_from: Option<i64>,
     /// Another zone, whose clock is shown too.
     pub other_zone: Option<TimeZone<'z>>,
+    /// What the zone is called in the last line of a call, if that line counts the files and names it.
+    pub zone_name: Option<&'z str>,
 }
 
 impl<'z> Shared<'z> {
@@ -39,6 +41,7 @@ impl<'z> Shared<'z> {
         ensures off_from { result.off_from ≡ off_from settings.now }
         ensures followed_from { result.followed_from ≡ followed_from settings.now }
         ensures other_zone { result.other_zone ≡ None }
+        ensures zone_name { result.zone_name ≡ None }
     {
         Shared {
             zone,
@@ -48,6 +51,7 @@ impl<'z> Shared<'z> {
             off_from: off_from(settings),
             followed_from: followed_from(settings),
             other_zone: None,
+            zone_name: None,
         }
     }
 
@@ -57,6 +61,16 @@ impl<'z> Shared<'z> {
     {
         Shared {
             other_zone: Some(other),
+            ..self
+        }
+    }
+
+    /// The same, where the last line of the call counts the files and calls the zone by this name.
+    pub fn with_zone_name(self, name: &'z str) -> Shared<'z>
+        ensures { result ≡ record self.entry { zone_name = Some name.entry } }
+    {
+        Shared {
+            zone_name: Some(name),
             ..self
         }
     }

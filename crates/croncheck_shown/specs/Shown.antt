@@ -1,6 +1,8 @@
 -- What a clock shows, and reports, as they are shown.
-use Rattle.std.specs.Prelude.{◌≡◌, ℕ, ℤ, pos, Bool, true, false, not, ◌==◌, List, [], ◌∷◌, ◌++◌, codes, Option, Some, None, if◌then◌else◌}
+use Rattle.std.specs.Prelude.{◌≡◌, ℕ, ℤ, Bool, true, false, ◌==◌, List, [], ◌∷◌, ◌++◌, codes, Option, Some, None, if◌then◌else◌}
 use Rattle.std.specs.Fmt.{decimal, signed_decimal}
+use Rattle.jiff.specs.declared.tz.timezone.TimeZone.{TimeZone as JiffZone}
+use Rattle.jiff.specs.ZoneView.{plain_zone}
 use Rattle.jiff_tz.specs.declared.timezone.TimeZone.{TimeZone}
 use Rattle.croner_words.specs.Swedish.{a_with_ring, o_with_dots}
 use Rattle.croner_base.specs.declared.time.civil.CivilDateTime.{CivilDateTime}
@@ -9,6 +11,8 @@ use Rattle.croner_base.specs.Civil.{wall_second, weekday_of_second}
 use Rattle.croner_base.specs.CivilText.{date_text, time_text}
 use Rattle.croner_base.specs.TableZone.{table_moment}
 use Rattle.croner_base.specs.Zone.{reading}
+use Rattle.croner_base.specs.ZoneTable.{ahead_at}
+use Rattle.croner_base.specs.ZonedZone.{is_timestamp_second, zone_reads}
 use Rattle.croncheck_runs.specs.declared.clock.stop.Stop.{Stop}
 use Rattle.croncheck_report.specs.declared.report.Report.{Report}
 use Rattle.croncheck_report.specs.declared.report.Report.TheVariants as reports
@@ -62,6 +66,31 @@ IsClockTextIn language zone run text =
 -- the same, with the weekday in English
 abbrev pub IsClockText : TimeZone → TableTime → List ℕ → Type 0
 IsClockText zone run text = IsClockTextIn tongues.English zone run text
+
+-- ---- the clock of another zone
+
+-- what another zone's clock shows, beside what the first one does: the weekday, the date, the time and how far it is ahead of UTC
+abbrev pub other_clock_text : List ℕ → CivilDateTime → ℤ → List ℕ
+other_clock_text weekday c ahead =
+    codes "  = " ++ (weekday ++ (32 ∷ (date_text c.date.year c.date.month c.date.day
+    ++ (32 ∷ (time_text c.time.hour c.time.minute c.time.second ++ (32 ∷ ahead_text ahead))))))
+
+-- what is shown of a zone at a second that it has: the date and time that its clock reads, and how far it is ahead of UTC then; the weekday in a
+-- language
+abbrev pub IsOtherClockAt : Tongue → TimeZone → ℤ → List ℕ → Type 0
+IsOtherClockAt language zone second text =
+    (civil : CivilDateTime) × (wall_second civil ≡ zone_reads zone second)
+    × (text ≡ other_clock_text (weekday_text language (weekday_of_second (zone_reads zone second))) civil (ahead_at zone second))
+
+-- the same at any second: nothing where the zone doesn't have it
+abbrev pub IsOtherClockOf : Tongue → TimeZone → ℤ → List ℕ → Type 0
+IsOtherClockOf language zone second text =
+    (is_timestamp_second second ≡ true → IsOtherClockAt language zone second text) × (is_timestamp_second second ≡ false → text ≡ [])
+
+-- what is shown of another zone's clock at a second, if one is to be shown; nothing where none is
+abbrev pub IsOtherClockText : Tongue → Option JiffZone → ℤ → List ℕ → Type 0
+IsOtherClockText language None second text = text ≡ []
+IsOtherClockText language (Some zone) second text = IsOtherClockOf language (plain_zone zone) second text
 
 -- ---- the text of a report
 

@@ -11,6 +11,7 @@ mod below;
 mod changes;
 pub mod found;
 mod often;
+mod other_clock;
 pub mod pattern;
 mod previous;
 pub mod runs;

@@ -34,8 +34,36 @@ nobody = refl
 blanks_at_the_end : names_no_address (codes "MAILTO='root '") ≡ false
 blanks_at_the_end = refl
 
-a_user_in_two_quotes : names_no_address (codes "MAILTO=\"'root'\"") ≡ true
+a_user_in_two_quotes : names_no_address (codes "MAILTO=\"'root'\"") ≡ false
 a_user_in_two_quotes = refl
+
+two_quotes_and_a_blank : names_no_address (codes "MAILTO=\"'root' \"") ≡ false
+two_quotes_and_a_blank = refl
+
+a_name_before_the_address_in_two_quotes : names_no_address (codes "MAILTO=\"'Ops <ops@example.org>'\"") ≡ true
+a_name_before_the_address_in_two_quotes = refl
+
+-- a blank within the second pair stands at the end of the address
+a_blank_within_two_quotes : names_no_address (codes "MAILTO=\"'root '\"") ≡ true
+a_blank_within_two_quotes = refl
+
+a_quote_that_no_other_ends : names_no_address (codes "MAILTO=\"'root\"") ≡ true
+a_quote_that_no_other_ends = refl
+
+a_single_quote : names_no_address (codes "MAILTO=\"'\"") ≡ true
+a_single_quote = refl
+
+three_quotes : names_no_address (codes "MAILTO=\"''root''\"") ≡ true
+three_quotes = refl
+
+nobody_in_two_quotes : names_no_address (codes "MAILTO=\"''\"") ≡ false
+nobody_in_two_quotes = refl
+
+a_name_in_quotes : names_no_address (codes "\"MAILTO\"=Ops <ops@example.org>") ≡ true
+a_name_in_quotes = refl
+
+a_name_in_quotes_and_a_user : names_no_address (codes "'MAILTO' = root") ≡ false
+a_name_in_quotes_and_a_user = refl
 
 another_setting : names_no_address (codes "MAILFROM=Cron Daemon") ≡ false
 another_setting = refl

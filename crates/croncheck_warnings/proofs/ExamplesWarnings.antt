@@ -218,6 +218,18 @@ each_minute : is_whole_hour (means true (codes "* * * * *")) ≡ false
 unfolding trim_start trim_end chars lib.Utf8.encode
 each_minute = refl
 
+each_minute_of_all_days_or_workdays : is_whole_hour (means false (codes "* * 1-31 * 1-5")) ≡ false
+unfolding trim_start trim_end chars lib.Utf8.encode
+each_minute_of_all_days_or_workdays = refl
+
+each_minute_of_all_days_that_are_workdays : is_whole_hour (means true (codes "* * 1-31 * 1-5")) ≡ true
+unfolding trim_start trim_end chars lib.Utf8.encode
+each_minute_of_all_days_that_are_workdays = refl
+
+each_minute_of_thirty_days_or_workdays : is_whole_hour (means false (codes "* * 1-30 * 1-5")) ≡ true
+unfolding trim_start trim_end chars lib.Utf8.encode
+each_minute_of_thirty_days_or_workdays = refl
+
 hours_as_one_range : has_hours_in_range (texts (codes "* 5-6 * * *")) ≡ true
 unfolding digits
 hours_as_one_range = refl

@@ -1,3 +1,4 @@
+mod ExamplesEffect
 mod ExamplesMail
 mod ExamplesPresets
 mod ExamplesStarred

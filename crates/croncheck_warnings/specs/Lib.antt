@@ -1,3 +1,4 @@
+pub mod Effect
 pub mod Hidden
 pub mod Mail
 pub mod Presets

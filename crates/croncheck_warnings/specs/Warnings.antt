@@ -5,11 +5,9 @@ use Rattle.std.specs.List.{list_any, list_all, slice_split, suffix_len}
 use Rattle.std.specs.Option.{option_or}
 use Rattle.std.specs.Str.{bytes_eq}
 use Rattle.jiff_core.specs.Calendar.{days_in_month}
-use Rattle.croner_base.specs.declared.time.civil.CivilDate.{CivilDate}
-use Rattle.croner_base.specs.Civil.{weekday_index}
 use Rattle.croner_base.specs.Field.{has_modifiers, marked_values}
 use Rattle.croner_pattern.specs.Meaning.{Meaning}
-use Rattle.croner_pattern.specs.Schedule.{is_plain, IsDayMask}
+use Rattle.croner_pattern.specs.Schedule.{is_plain}
 use Rattle.croner.specs.declared.parser.fault.PatternField.{PatternField}
 use Rattle.croner.specs.declared.parser.fault.PatternField.TheVariants as fields
 use Rattle.croner.specs.parser.Grammar.{Texts, seven}
@@ -34,8 +32,6 @@ use Rattle.croncheck_warnings.specs.declared.warnings.Warning.TheVariants as war
 use Rattle.croncheck_warnings.specs.declared.warnings.command.Met.{Met}
 use Rattle.croncheck_warnings.specs.declared.warnings.command.Met.TheVariants as met
 use Rattle.croncheck_warnings.specs.declared.warnings.fields.Fields.{Fields}
-use Rattle.croncheck_warnings.specs.declared.warnings.sides.Dates.{Dates}
-use Rattle.croncheck_warnings.specs.declared.warnings.sides.Month.{Month}
 
 -- ---- the texts of the fields
 
@@ -62,6 +58,7 @@ bounds_of_field fields.Month = month_bounds
 bounds_of_field fields.Weekday = weekday_bounds
 bounds_of_field fields.Year = record { first = 1; last = 5000; names = names.None }
 
+-- the text of a field
 abbrev pub text_of_field : PatternField → Texts → List ℕ
 text_of_field fields.Seconds t = t.seconds
 text_of_field fields.Minutes t = t.minutes
@@ -156,14 +153,23 @@ names_each_day m = length (marked_values 1 m.days) == 31
 abbrev pub names_each_weekday : Meaning → Bool
 names_each_weekday m = list_all (is_plain m.days_of_week) (0 ∷ 1 ∷ 2 ∷ 3 ∷ 4 ∷ 5 ∷ 6 ∷ [])
 
+-- a day field is a star, or a day has to match both
+abbrev pub is_one_day_side : Meaning → Bool
+is_one_day_side m = m.star_day || (m.star_weekday || m.and)
+
 -- `either-day`: neither day field is a star, a day needn't match both, and not both of them name each day. In a crontab a day has to match
 -- both where one of them begins with a star
 abbrev pub is_either_day : Meaning → Bool
-is_either_day m = not (m.star_day || (m.star_weekday || m.and)) && not (names_each_day m && names_each_weekday m)
+is_either_day m = not (is_one_day_side m) && not (names_each_day m && names_each_weekday m)
+
+-- each day of the named months is named: by both day fields, or, where a day needs to match only one, by either
+abbrev pub names_all_days : Meaning → Bool
+names_all_days m =
+    if is_one_day_side m then names_each_day m && names_each_weekday m else names_each_day m || names_each_weekday m
 
 -- each date is named
 abbrev pub names_each_date : Meaning → Bool
-names_each_date m = (names_each_day m && names_each_weekday m) && length (marked_values 1 m.months) == 12
+names_each_date m = names_all_days m && length (marked_values 1 m.months) == 12
 
 -- all minutes, but not all hours of all dates
 abbrev pub is_whole_hour : Meaning → Bool
@@ -198,30 +204,6 @@ abbrev pub has_short_months : Meaning → Bool
 has_short_months m =
     not (has_modifiers m.days) && (are_late (marked_values 1 m.days) (marked_values 1 m.years) (marked_values 1 m.months)
     && not (is_leap_day (marked_values 1 m.days) (marked_values 1 m.months)))
-
--- the same times, where one of the day fields is taken for a star, so that the other decides alone
-abbrev pub with_star_day : Bool → Meaning → Meaning
-with_star_day star m = record m { star_day = star; star_weekday = not star; and = false }
-
--- the meaning with a star for the weekday
-abbrev pub by_day_alone : Meaning → Meaning
-by_day_alone m = with_star_day false m
-
--- the meaning with a star for the day of the month
-abbrev pub by_weekday_alone : Meaning → Meaning
-by_weekday_alone m = with_star_day true m
-
--- the month of a date that has this weekday, so many days after a Sunday, with the weekday of its first
-pub record IsMonthOf (date : CivilDate) (weekday : ℕ) (m : Month) : Type 0 where
-  pub year : m.year ≡ date.year
-  pub month : m.month ≡ date.month
-  pub length : m.length ≡ days_in_month date.year date.month
-  pub first : weekday_index m.first ≡ (weekday + (36 - date.day)) % 7
-
--- the days of a month that each day field names by itself
-pub record NamesDates (m : Meaning) (d : Dates) : Type 0 where
-  pub by_day : IsDayMask (by_day_alone m) d.month.length (weekday_index d.month.first) d.sides.by_day
-  pub by_weekday : IsDayMask (by_weekday_alone m) d.month.length (weekday_index d.month.first) d.sides.by_weekday
 
 -- ---- the command
 
@@ -274,11 +256,11 @@ has_carriage_return command = ends_with_byte 13 command
 abbrev pub most_lines : ℕ
 most_lines = 10_000
 
--- the last line at which cron(8) takes a job or a setting of a crontab of the system
+-- the last line at which cron(8) itself takes a job or a setting: of a crontab of the system, and of one of a user that is installed
 abbrev pub last_line_taken : ℕ
 last_line_taken = 10_003
 
--- `many-lines`: a user's crontab has more
+-- `many-lines`: a user's crontab that isn't installed yet has more
 abbrev pub are_many_lines : ℕ → Bool
 are_many_lines lines = nat_lt most_lines lines
 
@@ -286,7 +268,7 @@ are_many_lines lines = nat_lt most_lines lines
 abbrev pub is_first_too_many : ℕ → Bool
 is_first_too_many lines = lines == most_lines
 
--- the line of this number stands after the last one of the system
+-- the line of this number stands after the last one that cron itself takes
 abbrev pub is_after_last : ℕ → Bool
 is_after_last number = nat_lt last_line_taken number
 
@@ -387,6 +369,7 @@ abbrev pub other_name : OtherWarning → List ℕ
 other_name others.NoNewline = warning_name warnings.NoNewline
 other_name others.ControlByte = warning_name warnings.ControlByte
 other_name others.NoZone = codes "no-zone"
+other_name others.NoEffect = codes "no-effect"
 other_name others.NotExpanded = codes "not-expanded"
 other_name others.NoMail = codes "no-mail"
 other_name others.ManyLines = codes "many-lines"

@@ -2,6 +2,7 @@
 //! asked.
 #![tactic(auto)]
 
+pub mod effect;
 pub mod mail;
 pub mod presets;
 pub mod starred;

@@ -1,30 +1,21 @@
 //! Settings of `MAILTO` for which cron sends no mail.
-ghost use Rattle.std.specs.Prelude.{◌≡◌};
+ghost use Rattle.std.specs.Prelude.{◌≡◌, ◌-◌, length, take};
+ghost use Rattle.std.specs.Io.BufRead.{ends_with_byte};
 ghost use Rattle.std.specs.List.{list_all};
-ghost use Rattle.croncheck_warnings.specs.Mail.{is_address_sign, is_address_byte, is_address, without_quotes, value_seen, is_no_address, text_after_sign, names_no_address};
+ghost use Rattle.croncheck_warnings.specs.Mail.{is_address_sign, is_address_byte, is_address, without_quotes, without_pair, value_seen, is_no_address, names_no_address};
 
-use crontab::bytes::{Kind, cut, is_of, is_quote, rest_of, trim_end};
+use crontab::bytes::{Kind, cut, is_of, is_quote, trim_end};
+use crontab::setting::{setting_name, setting_value, start_of};
 
 /// The signs that an address may have after its first byte.
 const ADDRESS_SIGNS: &str = "@!:%-.,_+=/";
 
 /// Whether a setting, given from its first byte that is no blank on, is of `MAILTO`, and its value is neither empty nor an address to which
-/// cron sends mail. A name in quotes isn't looked at.
+/// cron sends mail.
 pub fn names_no_address(text: &[u8]) -> bool
     ensures { result ≡ names_no_address text.now }
 {
-    let (name, _) = cut(text, Kind::Name);
-    name == "MAILTO".as_bytes() && is_no_address(text_after_sign(text))
-}
-
-// What stands after the `=` of a setting, and the spaces there.
-fn text_after_sign(text: &[u8]) -> &[u8]
-    ensures { result.now ≡ text_after_sign text.now }
-{
-    let (_, after) = cut(text, Kind::Name);
-    let (_, sign) = cut(after, Kind::Space);
-    let (_, value) = cut(rest_of(sign), Kind::Space);
-    value
+    setting_name(start_of(text)) == "MAILTO".as_bytes() && is_no_address(setting_value(text))
 }
 
 // Whether cron sends no mail where this is the value, although it isn't empty.
@@ -39,7 +30,41 @@ fn is_no_address(value: &[u8]) -> bool
 fn value_seen(value: &[u8]) -> &[u8]
     ensures { result.now ≡ value_seen value.now }
 {
-    trim_end(without_quotes(value))
+    without_pair(trim_end(without_quotes(value)))
+}
+
+// A text without a quote in front and the same quote at its end, where it has both.
+fn without_pair(text: &[u8]) -> &[u8]
+    ensures { result.now ≡ without_pair text.now }
+{
+    match text {
+        [] => text,
+        [first, rest @ ..] => {
+            if is_quote(*first) && ends_with_byte(*first, rest) {
+                without_last(rest)
+            } else {
+                text
+            }
+        }
+    }
+}
+
+fn ends_with_byte(byte: u8, text: &[u8]) -> bool
+    ensures { result ≡ ends_with_byte byte text.now }
+{
+    let last = text.len().saturating_sub(1);
+    let (_, end) = text.split_at(last);
+    match end {
+        [found] => *found == byte,
+        _ => false,
+    }
+}
+
+fn without_last(text: &[u8]) -> &[u8]
+    ensures { result.now ≡ take (length text.now - 1) text.now }
+{
+    let (front, _) = text.split_at(text.len().saturating_sub(1));
+    front
 }
 
 fn without_quotes(value: &[u8]) -> &[u8]

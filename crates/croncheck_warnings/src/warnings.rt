@@ -11,7 +11,6 @@ pub mod command;
 mod fields;
 mod hidden;
 mod meaning;
-mod sides;
 mod texts;
 
 use crate::presets::Reading;
@@ -20,17 +19,17 @@ use croner::Cron;
 use croner::errors::CronError;
 use croner::parser::PatternField;
 use crontab::bytes::begins_with;
-pub use fields::{Fields, fields_of_pattern, fields_of_schedule};
-pub use hidden::has_hidden;
-pub use meaning::is_either_day as runs_on_either_day;
-pub use sides::{Dates, Month, Sides, dates_in_month_of, month_of, sides_of};
+pub use fields::{
+    Fields, bounds_of_field, fields_of_pattern, fields_of_schedule, is_beyond, turn_of,
+};
+pub use hidden::{has_hidden, has_hidden_within};
 use std::alloc::Global;
 pub use texts::warning_text;
 
 /// The most lines that `crontab` takes of a user's crontab.
 const MOST_LINES: u64 = 10_000;
 
-/// The last line at which cron takes a job or a setting of a crontab of the system.
+/// The last line at which cron itself takes a job or a setting: of a crontab of the system, and of one of a user that is installed.
 const LAST_LINE_TAKEN: u64 = 10_003;
 
 /// The name of the warning of a job that is the same as an earlier one.
@@ -94,6 +93,8 @@ pub enum OtherWarning {
     ControlByte,
     /// The setting's variable is `CRON_TZ` or `TZ`.
     NoZone,
+    /// The setting's variable is one by which other crons start jobs otherwise, such as `RANDOM_DELAY`.
+    NoEffect,
     /// The setting's value has something that a shell would expand, and that cron takes as it stands.
     NotExpanded,
     /// The setting's variable is `MAILTO`, and its value is no address to which cron sends mail.
@@ -495,7 +496,7 @@ fn has_hidden_user(user: Option<&[u8]>) -> bool
     }
 }
 
-fn has_hidden_within(command: Option<&[u8]>) -> bool
+fn has_hidden_command(command: Option<&[u8]>) -> bool
     ensures { result ≡ is_some_so has_hidden_within (option_map (λ c. c.now) command.entry) }
 {
     match command {
@@ -520,7 +521,7 @@ fn has_control_byte(subject: &Subject<'_, '_>) -> bool
     subject.is_crontab
         && (has_hidden_field(&subject.fields)
             || has_hidden_user(subject.user)
-            || has_hidden_within(subject.command))
+            || has_hidden_command(subject.command))
 }
 
 fn has_carriage_return(command: Option<&[u8]>) -> bool
@@ -546,8 +547,7 @@ pub fn is_first_too_many(lines: u64) -> bool
     lines == MOST_LINES
 }
 
-/// Whether the line with this number, counted from 1, stands after the last one at which cron takes a job or a setting of a crontab of
-/// the system.
+/// Whether the line with this number, counted from 1, stands after the last one at which cron itself takes a job or a setting.
 pub fn is_after_last(number: u64) -> bool
     ensures { result ≡ is_after_last number }
 {

@@ -1,4 +1,12 @@
+pub mod Answers
 pub mod Clocks
+pub mod Descriptions
+pub mod Faults
+pub mod Lines
+pub mod Listings
 pub mod Patterns
+pub mod Searches
+pub mod Starts
 pub mod Status
 pub mod Written
+pub mod Zones

@@ -1,16 +1,13 @@
 -- The pattern of a call: its settings by their number, and its text.
 use Rattle.std.specs.Prelude.{◌≡◌, ◌⊎◌, ◌==◌, ◌/◌, ◌%◌, nat_lt, if◌then◌else◌, Bool, true, false, ℕ, ℤ, pos, List, Result, Ok, Err, IsUtf8}
 use Rattle.std.specs.Ordering.{int_eq}
-use Rattle.croner_base.specs.declared.errors.CronError.{CronError}
-use Rattle.croner_base.specs.declared.errors.CronError.TheVariants as errors
-use Rattle.croner.specs.declared.job.Cron.{Cron}
+use Rattle.croner_pattern.specs.Meaning.{Meaning}
 use Rattle.croner.specs.declared.parser.Seconds.{Seconds}
 use Rattle.croner.specs.declared.parser.Seconds.TheVariants as seconds
 use Rattle.croner.specs.declared.parser.Year.{Year}
 use Rattle.croner.specs.declared.parser.Year.TheVariants as year
 use Rattle.croner.specs.parser.Grammar.{Refusal, outcome}
 use Rattle.croner.specs.parser.Settings.{Settings}
-use Rattle.croner.specs.Views.{job_of}
 use Rattle.croner_c.specs.Clocks.{is_accepted}
 use Rattle.croner_c.specs.declared.clock.Clock.{Clock}
 use Rattle.croner_c.specs.declared.status.Reason.{Reason}
@@ -55,16 +52,8 @@ abbrev pub IsNoPattern : Settings → List ℕ → Type 0
 IsNoPattern s text = ¬ (IsUtf8 text) ⊎ ((refusal : Refusal) × (outcome s text ≡ Err refusal))
 
 -- the pattern of a text, or why there is none
-abbrev pub IsPattern : Settings → List ℕ → Result Cron Reason → Type 0
-IsPattern s text (Ok cron) = IsUtf8 text × (outcome s text ≡ Ok (job_of cron))
+abbrev pub IsPattern : Settings → List ℕ → Result Meaning Reason → Type 0
+IsPattern s text (Ok m) = IsUtf8 text × (outcome s text ≡ Ok m)
 IsPattern s text (Err reasons.Refused) = IsNoPattern s text
 IsPattern s text (Err reasons.OutOfMemory) = Unit {0}
 IsPattern s text (Err other) = ⊥
-
--- the reason of an error of the parser
-abbrev pub reason_of : CronError → Reason
-reason_of errors.EmptyPattern = reasons.Refused
-reason_of (errors.InvalidPattern message) = reasons.Refused
-reason_of (errors.IllegalCharacters message) = reasons.Refused
-reason_of (errors.ComponentError message) = reasons.Refused
-reason_of other = reasons.OutOfMemory

@@ -1,5 +1,5 @@
--- The status of a call, by which C learns whether there is an answer.
-use Rattle.std.specs.Prelude.{ℤ, pos}
+-- The status of a call, by which C learns whether there is an answer. Source: bindings/c/croner.h.
+use Rattle.std.specs.Prelude.{ℤ, pos, Option, Some, None}
 use Rattle.croner_c.specs.declared.status.Reason.{Reason}
 use Rattle.croner_c.specs.declared.status.Reason.TheVariants as reasons
 
@@ -13,3 +13,8 @@ status_of reasons.NotCalm = pos 5
 status_of reasons.BadZone = pos 6
 status_of reasons.TooSmall = pos 7
 status_of reasons.BadArgument = pos 8
+
+-- the status of a listing: 0, or that of the item after its last one
+abbrev pub status_of_end : Option Reason → ℤ
+status_of_end None = pos 0
+status_of_end (Some reason) = status_of reason

@@ -80,7 +80,17 @@ impl Clock<'_> {
     pub(crate) fn table(&self, alloc: Global) -> Result<ClockTable, Reason>
         ensures { Spec.IsTable self.now result }
     {
-        let changes = rows_of(alloc, self.changes)?;
+        match rows_of(alloc, self.changes) {
+            Ok(changes) => self.table_of(changes),
+            Err(_) => Err(Reason::OutOfMemory),
+        }
+    }
+
+    /// The table of the clock's changes, if it is calm.
+    fn table_of(&self, changes: Vec<(i64, i32)>) -> Result<ClockTable, Reason>
+        requires { changes.items ≡ Spec.rows_of self.now.changes.now }
+        ensures { Spec.IsTable self.now result }
+    {
         match ClockTable::new(self.ahead, changes) {
             Ok(table) => Ok(table),
             Err(_) => Err(Reason::NotCalm),
@@ -93,10 +103,22 @@ impl Clock<'_> {
         table: &'t ClockTable,
         second: i64,
     ) -> Result<TableTime<'t>, Reason>
-        requires { Spec.is_accepted self.now ≡ true }
-        ensures { MatchResult result (λ t. (t.second ≡ second) × (t.table.now ≡ table.now) × (Spec.has self.now second ≡ true)) (λ r. (r ≡ reasons.Outside) × (Spec.has self.now second ≡ false)) }
+        requires accepted { Spec.is_accepted self.now ≡ true }
+        requires table { Spec.IsTableOf self.now table.now }
+        ensures { MatchResult result (λ t. (t.second ≡ second) × Spec.IsTimeOn self.now t) (λ r. (r ≡ reasons.Outside) × (Spec.has self.now second ≡ false)) }
     {
-        let second = self.within(second)?;
+        match self.within(second) {
+            Ok(second) => self.time_within(table, second),
+            Err(_) => Err(Reason::Outside),
+        }
+    }
+
+    /// A second that lies in the window.
+    fn time_within<'t>(&self, table: &'t ClockTable, second: i64) -> Result<TableTime<'t>, Reason>
+        requires accepted { Spec.is_accepted self.now ≡ true }
+        requires within { Spec.has self.now second ≡ true }
+        ensures { MatchResult result (λ t. (t.second ≡ second) × (t.table.now ≡ table.now)) (λ r. ⊥) }
+    {
         match TableTime::new(table, second) {
             Ok(time) => Ok(time),
             Err(_) => Err(Reason::Outside),

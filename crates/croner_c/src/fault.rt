@@ -1,5 +1,8 @@
 //! Why a pattern is refused.
-ghost use Rattle.std.specs.Prelude.{◌≤◌, length};
+ghost use Rattle.std.specs.Prelude.{◌≡◌, ◌≤◌, length, IsUtf8};
+ghost use Rattle.std.specs.Str.{chars, IsValidUpTo};
+ghost use Rattle.croner_c.specs.Answers.{OrLack, Tells, seen};
+ghost use Rattle.croner_c.specs.Faults as Spec;
 
 use crate::job::parser_of;
 use crate::put::put;
@@ -57,7 +60,10 @@ pub extern "C" fn croner_c_explain(
     fault: &mut Fault,
     message: &mut [u8],
     length: &mut usize,
-) -> i32 {
+) -> i32
+    ensures { Tells (Spec.IsExplained text.now settings fault.old.size) Spec.tell_fault (fault.old, (message.old, length.old))
+        (result, (fault.new, (message.new, length.new))) }
+{
     match explained(alloc, text, settings, fault.size) {
         Ok(None) => {
             *fault = NO_FAULT;
@@ -79,14 +85,37 @@ fn explained(
     text: &[u8],
     settings: u32,
     size: usize,
-) -> Result<Option<Explanation>, Reason> {
-    let parser = parser_of(settings)?;
-    if size != FAULT_SIZE {
-        return Err(Reason::BadArgument);
+) -> Result<Option<Explanation>, Reason>
+    ensures { Spec.IsExplained text.now settings size (seen Spec.explanation_seen result) }
+{
+    match asked_fault(settings, size) {
+        Ok(parser) => explained_bytes(alloc, parser, text),
+        Err(reason) => Err(reason),
     }
+}
+
+/// The parser of a call, if it is accepted.
+fn asked_fault(settings: u32, size: usize) -> Result<CronParser, Reason>
+    ensures { result ≡ Spec.asked_fault settings size }
+{
+    if size == FAULT_SIZE {
+        parser_of(settings)
+    } else {
+        Err(Reason::BadArgument)
+    }
+}
+
+/// Where and why bytes are refused, if they are.
+fn explained_bytes(
+    alloc: Global,
+    parser: CronParser,
+    text: &[u8],
+) -> Result<Option<Explanation>, Reason>
+    ensures { Spec.IsExplainedBy parser text.now (seen Spec.explanation_seen result) }
+{
     match std::str::from_utf8(text) {
         Ok(text) => explained_text(alloc, parser, text),
-        Err(error) => explained_bytes(alloc, text, error.valid_up_to().min(text.len())),
+        Err(error) => explained_up_to(alloc, text, error.valid_up_to()),
     }
 }
 
@@ -95,36 +124,50 @@ fn explained_text(
     alloc: Global,
     parser: CronParser,
     text: &str,
-) -> Result<Option<Explanation>, Reason> {
+) -> Result<Option<Explanation>, Reason>
+    ensures { IsUtf8 text.now → Spec.IsExplainedBy parser text.now (seen Spec.explanation_seen result) }
+{
     match parser.explain(alloc, text) {
         Ok(None) => Ok(None),
-        Ok(Some(found)) => {
-            let message = format!(in alloc; "{found}")?;
-            let fault = fault_of(&found);
-            Ok(Some(Explanation { fault, message }))
-        }
+        Ok(Some(found)) => with_message(alloc, &found),
         Err(error) => Err(memory_of(error)),
     }
 }
 
-/// The fault of bytes that are UTF-8 up to a place.
-fn explained_bytes(alloc: Global, text: &[u8], valid: usize) -> Result<Option<Explanation>, Reason>
-    requires { valid ≤ length text.now }
+/// A fault with its message.
+fn with_message(alloc: Global, found: &PatternFault) -> Result<Option<Explanation>, Reason>
+    ensures { OrLack (Spec.HasFault (Spec.fault_of found.now)) (seen Spec.explanation_seen result) }
 {
-    let message = String::from_str(alloc, NOT_UTF8)?;
+    let fault = fault_of(found);
+    match format!(in alloc; "{found}") {
+        Ok(message) => Ok(Some(Explanation { fault, message })),
+        Err(_) => Err(Reason::OutOfMemory),
+    }
+}
+
+/// The fault of bytes that are UTF-8 up to a place, and no farther.
+fn explained_up_to(alloc: Global, text: &[u8], valid: usize) -> Result<Option<Explanation>, Reason>
+    requires { IsValidUpTo text.now valid }
+    ensures { OrLack (Spec.HasFault (Spec.fault_at text.now valid)) (seen Spec.explanation_seen result) }
+{
     let fault = Fault {
         size: FAULT_SIZE,
         begin: valid,
-        end: valid.saturating_add(1),
-        character: characters(&text[..valid]).saturating_add(1),
+        end: valid + 1,
+        character: characters(&text[..valid]) + 1,
         field: -1,
         kind: 5,
     };
-    Ok(Some(Explanation { fault, message }))
+    match String::from_str(alloc, NOT_UTF8) {
+        Ok(message) => Ok(Some(Explanation { fault, message })),
+        Err(_) => Err(Reason::OutOfMemory),
+    }
 }
 
 /// The fault of a pattern for C.
-fn fault_of(fault: &PatternFault) -> Fault {
+fn fault_of(fault: &PatternFault) -> Fault
+    ensures { result ≡ Spec.fault_of fault.now }
+{
     Fault {
         size: FAULT_SIZE,
         begin: fault.start,
@@ -136,7 +179,9 @@ fn fault_of(fault: &PatternFault) -> Fault {
 }
 
 /// The number of a field, -1 where there is no single one.
-fn number_of_field(field: Option<PatternField>) -> i32 {
+fn number_of_field(field: Option<PatternField>) -> i32
+    ensures { result ≡ Spec.number_of_field field }
+{
     match field {
         Some(field) => field.place() as i32,
         None => -1,
@@ -144,7 +189,9 @@ fn number_of_field(field: Option<PatternField>) -> i32 {
 }
 
 /// The number of a kind.
-fn number_of_kind(kind: FaultKind) -> i32 {
+fn number_of_kind(kind: FaultKind) -> i32
+    ensures { result ≡ Spec.number_of_kind kind }
+{
     match kind {
         FaultKind::EmptyPattern => 1,
         FaultKind::InvalidPattern => 2,
@@ -154,8 +201,20 @@ fn number_of_kind(kind: FaultKind) -> i32 {
 }
 
 /// How many characters bytes of UTF-8 are.
-fn characters(text: &[u8]) -> usize {
-    text.iter()
-        .filter(|byte| **byte < 0x80 || **byte >= 0xC0)
-        .count()
+fn characters(text: &[u8]) -> usize
+    ensures value { IsUtf8 text.now → result ≡ length (chars text.now) }
+    ensures most { result ≤ length text.now }
+{
+    match std::str::from_utf8(text) {
+        Ok(text) => character_count(text),
+        Err(_) => 0,
+    }
+}
+
+/// How many characters a text has.
+fn character_count(text: &str) -> usize
+    ensures value { result ≡ length (chars text.now) }
+    ensures most { result ≤ length text.now }
+{
+    text.chars().count()
 }

@@ -1,5 +1,7 @@
 //! The pattern of a text, with its settings.
 ghost use Rattle.std.specs.Prelude.{◌≡◌, true, IfOk, IsUtf8};
+ghost use Rattle.croner.specs.Views.{job_of};
+ghost use Rattle.croner_c.specs.Answers.{seen};
 ghost use Rattle.croner_c.specs.Clocks.{is_accepted};
 ghost use Rattle.croner_c.specs.Patterns as Spec;
 ghost use Rattle.croner_c.specs.declared.status.Reason.TheVariants as reasons;
@@ -7,8 +9,7 @@ ghost use Rattle.croner_c.specs.declared.status.Reason.TheVariants as reasons;
 use crate::clock::Clock;
 use crate::status::Reason;
 use croner::Cron;
-use croner::errors::CronError;
-use croner::parser::{CronParser, Seconds, Year};
+use croner::parser::{CronParser, ParseOutcome, Seconds, Year};
 use std::alloc::Global;
 
 /// The number after the greatest that settings can be.
@@ -89,7 +90,7 @@ pub(crate) fn asked(
 
 /// The pattern of a text.
 pub(crate) fn job_of_text(alloc: Global, parser: CronParser, text: &[u8]) -> Result<Cron, Reason>
-    ensures { Spec.IsPattern parser text.now result }
+    ensures { Spec.IsPattern parser text.now (seen job_of result) }
 {
     match std::str::from_utf8(text) {
         Ok(text) => job_of(alloc, parser, text),
@@ -97,28 +98,13 @@ pub(crate) fn job_of_text(alloc: Global, parser: CronParser, text: &[u8]) -> Res
     }
 }
 
-/// The pattern of a text that is UTF-8.
+/// The pattern of a text that is UTF-8. No message is made of a text that is refused, as `parse` would.
 fn job_of(alloc: Global, parser: CronParser, text: &str) -> Result<Cron, Reason>
-    ensures { IsUtf8 text.now → Spec.IsPattern parser text.now result }
+    ensures { IsUtf8 text.now → Spec.IsPattern parser text.now (seen job_of result) }
 {
-    match parser.parse(alloc, text) {
-        Ok(job) => Ok(job),
-        Err(error) => Err(reason_of(&error)),
-    }
-}
-
-/// Why a text has no pattern.
-fn reason_of(error: &CronError) -> Reason
-    ensures { result ≡ Spec.reason_of error.now }
-{
-    match error {
-        CronError::EmptyPattern
-        | CronError::InvalidPattern(_)
-        | CronError::IllegalCharacters(_)
-        | CronError::ComponentError(_) => Reason::Refused,
-        CronError::OutOfMemory
-        | CronError::InvalidDate
-        | CronError::InvalidTime
-        | CronError::TimeSearchLimitExceeded => Reason::OutOfMemory,
+    match parser.parse_or_explain(alloc, text) {
+        Ok(ParseOutcome::Accepted(job)) => Ok(job),
+        Ok(ParseOutcome::Refused(_)) => Err(Reason::Refused),
+        Err(_) => Err(Reason::OutOfMemory),
     }
 }

@@ -1,4 +1,10 @@
 //! What a line of a crontab is.
+ghost use Rattle.std.specs.Prelude.{◌≡◌, Bool, pos, Some, if◌then◌else◌};
+ghost use Rattle.std.specs.Ordering.{int_eq};
+ghost use Rattle.crontab.specs.Entries.{entry_seen, job_seen, times_seen};
+ghost use Rattle.crontab.specs.Place.{NamesPlace};
+ghost use Rattle.croner_c.specs.Answers.{Tells};
+ghost use Rattle.croner_c.specs.Lines as Spec;
 
 use crate::status::{OK, Reason};
 use crontab::bytes::{Kind, cut};
@@ -38,7 +44,9 @@ pub extern "C" fn croner_c_crontab_line(
     line: &[u8],
     table: u32,
     out: &mut Line,
-) -> i32 {
+) -> i32
+    ensures { Tells (Spec.IsLine line.now table out.old.size) Spec.tell_line out.old (result, out.new) }
+{
     match line_in(alloc, line, table, out.size) {
         Ok(found) => {
             *out = found;
@@ -49,7 +57,9 @@ pub extern "C" fn croner_c_crontab_line(
 }
 
 /// The status of a line.
-fn status_of_line(line: &Line) -> i32 {
+fn status_of_line(line: &Line) -> i32
+    ensures { result ≡ (if int_eq line.now.kind (pos 6) then pos 1 else pos 0) }
+{
     if line.kind == REFUSED_LINE {
         Reason::Refused.status()
     } else {
@@ -58,17 +68,40 @@ fn status_of_line(line: &Line) -> i32 {
 }
 
 /// What a line is in a crontab.
-fn line_in(alloc: Global, line: &[u8], table: u32, size: usize) -> Result<Line, Reason> {
-    if size != LINE_SIZE {
-        return Err(Reason::BadArgument);
+fn line_in(alloc: Global, line: &[u8], table: u32, size: usize) -> Result<Line, Reason>
+    ensures { Spec.IsLine line.now table size result }
+{
+    match asked_line(table, size) {
+        Ok(dialect) => line_of(alloc, dialect, line),
+        Err(reason) => Err(reason),
     }
-    let dialect = dialect_of(table)?;
-    let entry = entry_of(alloc, dialect, line)?;
-    Ok(line_of_entry(line, &entry))
+}
+
+/// Whose crontab a call means, if the call is accepted.
+fn asked_line(table: u32, size: usize) -> Result<Dialect, Reason>
+    ensures { result ≡ Spec.asked_line table size }
+{
+    if size == LINE_SIZE {
+        dialect_of(table)
+    } else {
+        Err(Reason::BadArgument)
+    }
+}
+
+/// What a line is in a crontab of this dialect.
+fn line_of(alloc: Global, dialect: Dialect, line: &[u8]) -> Result<Line, Reason>
+    ensures { Spec.IsRow dialect line.now result }
+{
+    match entry_of(alloc, dialect, line) {
+        Ok(entry) => Ok(line_of_entry(line, &entry)),
+        Err(_) => Err(Reason::OutOfMemory),
+    }
 }
 
 /// How the lines of a crontab are read, by its number.
-pub(crate) fn dialect_of(table: u32) -> Result<Dialect, Reason> {
+pub(crate) fn dialect_of(table: u32) -> Result<Dialect, Reason>
+    ensures { result ≡ Spec.dialect_of table }
+{
     match table {
         0 => Ok(Dialect::User),
         1 => Ok(Dialect::System),
@@ -77,7 +110,9 @@ pub(crate) fn dialect_of(table: u32) -> Result<Dialect, Reason> {
 }
 
 /// A line without parts.
-fn line_of_kind(kind: i32) -> Line {
+fn line_of_kind(kind: i32) -> Line
+    ensures { result ≡ Spec.row_of_kind kind }
+{
     Line {
         size: LINE_SIZE,
         schedule_begin: 0,
@@ -94,24 +129,33 @@ fn line_of_kind(kind: i32) -> Line {
 }
 
 /// A line with this entry.
-fn line_of_entry(line: &[u8], entry: &Entry<'_>) -> Line {
+fn line_of_entry(line: &[u8], entry: &Entry<'_>) -> Line
+    ensures { (system : Bool) → NamesPlace system line.now entry.now → result ≡ Spec.row_of system line.now (entry_seen entry.now) }
+{
     match entry {
         Entry::Blank | Entry::Pattern(_) => line_of_kind(0),
         Entry::Comment => line_of_kind(1),
         Entry::Setting { .. } => line_of_kind(2),
         Entry::Job(job) => line_of_job(line, job),
-        Entry::Refused { fault, start, end } => {
-            let mut found = line_of_kind(REFUSED_LINE);
-            found.fault_begin = *start;
-            found.fault_end = *end;
-            found.fault = number_of(*fault);
-            found
-        }
+        Entry::Refused { fault, start, end } => line_of_fault(*fault, *start, *end),
     }
 }
 
+/// A refused line.
+fn line_of_fault(fault: Fault, start: usize, end: usize) -> Line
+    ensures { result ≡ Spec.row_with_fault fault start end }
+{
+    let mut found = line_of_kind(REFUSED_LINE);
+    found.fault_begin = start;
+    found.fault_end = end;
+    found.fault = number_of(fault);
+    found
+}
+
 /// The number of a fault.
-fn number_of(fault: Fault) -> i32 {
+fn number_of(fault: Fault) -> i32
+    ensures { result ≡ Spec.number_of fault }
+{
     match fault {
         Fault::Nul => 1,
         Fault::Minutes => 2,
@@ -127,7 +171,9 @@ fn number_of(fault: Fault) -> i32 {
 }
 
 /// The number of a job's kind, by its times.
-fn number_of_times(times: &Times) -> i32 {
+fn number_of_times(times: &Times) -> i32
+    ensures { result ≡ Spec.number_of_times (times_seen times.now) }
+{
     match times {
         Times::Named { .. } => 3,
         Times::Reboot => 4,
@@ -136,16 +182,35 @@ fn number_of_times(times: &Times) -> i32 {
 }
 
 /// A line of a job: blanks, its schedule, blanks, in a system's crontab its user and a blank, and its command.
-fn line_of_job(line: &[u8], job: &Job<'_>) -> Line {
+fn line_of_job(line: &[u8], job: &Job<'_>) -> Line
+    ensures { result ≡ Spec.row_of_job line.now (job_seen job.now) }
+{
+    let found = line_of_schedule(line, job);
+    match job.user {
+        Some(user) => with_user(found, user),
+        None => found,
+    }
+}
+
+/// A line of a job without its user.
+fn line_of_schedule(line: &[u8], job: &Job<'_>) -> Line
+    ensures { result ≡ Spec.row_of_schedule line.now (job_seen job.now) }
+{
     let (_, text) = cut(line, Kind::Blank);
     let mut found = line_of_kind(number_of_times(&job.times));
     found.schedule_begin = line.len().saturating_sub(text.len());
     found.schedule_end = found.schedule_begin + job.schedule.len();
     found.command_begin = line.len().saturating_sub(job.command.len());
     found.command_end = line.len();
-    if let Some(user) = job.user {
-        found.user_end = found.command_begin.saturating_sub(1);
-        found.user_begin = found.user_end.saturating_sub(user.len());
-    }
+    found
+}
+
+/// A line of a job with its user, whose name and a blank stand before the command.
+fn with_user(line: Line, user: &[u8]) -> Line
+    ensures { result ≡ Spec.with_user line.command_begin (Some user.now) line }
+{
+    let mut found = line;
+    found.user_end = line.command_begin.saturating_sub(1);
+    found.user_begin = found.user_end.saturating_sub(user.len());
     found
 }

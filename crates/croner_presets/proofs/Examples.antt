@@ -85,6 +85,9 @@ days_before_the_last_are_no_range = refl
 the_last_weekday_ends_no_range : is_of forms.RangeModified (codes "1-LW") ≡ false
 the_last_weekday_ends_no_range = refl
 
+a_last_of_each_day_of_a_range : is_of forms.RangeModified (codes "MON-FRI#L") ≡ false
+a_last_of_each_day_of_a_range = refl
+
 every_second_year : is_of forms.YearStep (codes "/2") ≡ true
 every_second_year = refl
 

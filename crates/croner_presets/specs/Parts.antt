@@ -178,10 +178,10 @@ is_last_by_hash part = not (is_range part) && bytes_eq (after_first (λ b. b == 
 abbrev pub begins_with_value : List ℕ → Bool
 begins_with_value text = is_digit_at 0 text || begins_with_name text
 
--- a range of two values that ends in L or W; the days before a month's last are no range
+-- a range of two values that ends in L or W, and has no `#`; the days before a month's last are no range
 abbrev pub is_range_modified : List ℕ → Bool
 is_range_modified part = (is_range part && (begins_with_value part && begins_with_value (high_side part)))
-    && (ends_with letter_l part || ends_with letter_w part)
+    && ((ends_with letter_l part || ends_with letter_w part) && not (contains_byte hash part))
 
 -- by this step other years are reached from 1970 than from the year 1
 abbrev pub reaches_other_years : ℕ → Bool

@@ -419,7 +419,7 @@ fn is_range_modified(part: &str) -> bool
     ensures { result ≡ is_range_modified part.now }
 {
     (is_range(part) && (begins_with_value(part) && begins_with_value(high_side(part))))
-        && (part.ends_with('L') || part.ends_with('W'))
+        && ((part.ends_with('L') || part.ends_with('W')) && !has(part, '#'))
 }
 
 fn reaches_other_years(step: u16) -> bool

@@ -3,10 +3,12 @@
 use crate::{Caller, Fault, FlakyJob, Result, items, number, number_at, parts, shown, word};
 use croner::Clocked;
 use croner_scheduler::{
-    AddError, Again, Due, Latest, NotAdded, Refusal, Replaced, Scheduler, Skip, Stop, Waiting,
+    AddError, Again, Due, Latest, NotAdded, NotReplaced, Refusal, Replaced, Resume, Scheduler,
+    Skip, Stop, Waiting, pause_until,
 };
 use serde_json::Value;
 use std::alloc::{AllocError, Global};
+use std::mem;
 
 /// What the calls of a scheduler refer to by index: patterns, and a time on each clock.
 #[derive(Drop)]
@@ -71,11 +73,17 @@ pub fn call_scheduler<T: Clocked>(
         "add" => add(caller, scheduler, named, call, false),
         "add_from" => add(caller, scheduler, named, call, true),
         "replace" => replace(caller, scheduler, named, call),
+        "replace_job" => replace_job(caller, scheduler, named, call),
         "remove" => remove(caller, scheduler, call),
+        "into_jobs" => into_jobs(caller, scheduler),
         "skip_to" => skip_to(caller, scheduler, call),
+        "skip_all_to" => skip_all_to(caller, scheduler, call),
         "ask_again" => ask_again(caller, scheduler, call),
+        "pause" => pause(caller, scheduler, call),
+        "resume" => resume(caller, scheduler, call),
         "take_due" => take_due(caller, scheduler, call),
         "take_latest_due" => take_latest_due(caller, scheduler, call),
+        "pause_until" => seconds_to_sleep(scheduler, call),
         name => view(caller, scheduler, name),
     }
 }
@@ -90,6 +98,7 @@ fn view<T: Clocked>(
         "next_wake_up" => Ok(next_wake_up(caller, scheduler)),
         "standings" => standings(caller.alloc, scheduler),
         "stopped" => stopped_jobs(caller, scheduler),
+        "stopped_len" => Ok(Value::from(scheduler.stopped_len())),
         _ => Err(Fault::Unsupported),
     }
 }
@@ -141,6 +150,51 @@ fn replace<T: Clocked>(
     }
 }
 
+// A job in the place of another, at its position.
+fn replace_job<T: Clocked>(
+    caller: Caller<'_>,
+    scheduler: &mut Scheduler<FlakyJob, T>,
+    named: &Named<'_, T>,
+    call: &Value,
+) -> Result<Value> {
+    let [_, id, job] = parts::<3>(call)?;
+    let id = id_of(id)?;
+    let job = named.job(caller.alloc, job)?;
+    caller.begin();
+    let replaced = scheduler.replace_job(id, job);
+    caller.end();
+    match replaced {
+        Ok(out) => job_put_in_place(caller.alloc, out),
+        Err(refused) => job_not_replaced(caller.alloc, refused),
+    }
+}
+
+// The jobs of a scheduler that is taken apart. An empty one with the same next id stays.
+fn into_jobs<T: Clocked>(
+    caller: Caller<'_>,
+    scheduler: &mut Scheduler<FlakyJob, T>,
+) -> Result<Value> {
+    let empty = Scheduler::with_first_id(caller.alloc, scheduler.next_id());
+    let taken = mem::replace(scheduler, empty);
+    caller.begin();
+    let left = taken.into_jobs();
+    caller.end();
+    let mut jobs = Vec::new(caller.alloc);
+    for (id, (job, position)) in left {
+        let given = job_given_back(caller.alloc, &job, &position)?;
+        jobs.push(shown::pair(caller.alloc, Value::from(id), given)?)?;
+    }
+    Ok(Value::Array(jobs))
+}
+
+// How many seconds a program sleeps, at most so many.
+fn seconds_to_sleep<T: Clocked>(scheduler: &Scheduler<FlakyJob, T>, call: &Value) -> Result<Value> {
+    let [_, now, most] = parts::<3>(call)?;
+    let most = most.as_u64().ok_or(Fault::Malformed)?;
+    let now = number(now)?;
+    Ok(Value::from(pause_until(now, scheduler.next_wake_up(), most)))
+}
+
 fn remove<T: Clocked>(
     caller: Caller<'_>,
     scheduler: &mut Scheduler<FlakyJob, T>,
@@ -170,6 +224,19 @@ fn skip_to<T: Clocked>(
     shown_skip(caller.alloc, skipped?)
 }
 
+fn skip_all_to<T: Clocked>(
+    caller: Caller<'_>,
+    scheduler: &mut Scheduler<FlakyJob, T>,
+    call: &Value,
+) -> Result<Value> {
+    let [_, now] = parts::<2>(call)?;
+    let now = number(now)?;
+    caller.begin();
+    let skipped = scheduler.skip_all_to(now);
+    caller.end();
+    Ok(Value::from(skipped?))
+}
+
 fn ask_again<T: Clocked>(
     caller: Caller<'_>,
     scheduler: &mut Scheduler<FlakyJob, T>,
@@ -181,6 +248,33 @@ fn ask_again<T: Clocked>(
     let asked = scheduler.ask_again(id);
     caller.end();
     shown::text(caller.alloc, again_name(asked?))
+}
+
+// Whether there is such a job, which is paused from then on.
+fn pause<T: Clocked>(
+    caller: Caller<'_>,
+    scheduler: &mut Scheduler<FlakyJob, T>,
+    call: &Value,
+) -> Result<Value> {
+    let [_, id] = parts::<2>(call)?;
+    let id = id_of(id)?;
+    caller.begin();
+    let is_there = scheduler.pause(id);
+    caller.end();
+    Ok(Value::from(is_there))
+}
+
+fn resume<T: Clocked>(
+    caller: Caller<'_>,
+    scheduler: &mut Scheduler<FlakyJob, T>,
+    call: &Value,
+) -> Result<Value> {
+    let [_, id, from] = parts::<3>(call)?;
+    let (id, from) = (id_of(id)?, number(from)?);
+    caller.begin();
+    let resumed = scheduler.resume(id, from);
+    caller.end();
+    shown_resume(caller.alloc, resumed?)
 }
 
 // At most so many runs, up to the first call that gives none.
@@ -288,6 +382,7 @@ fn shown_stop(alloc: Global, stop: &Stop) -> Result<Value> {
     match stop {
         Stop::Refused(refusal) => shown::text(alloc, refusal_name(*refusal)),
         Stop::NotLater => shown::text(alloc, "NotLater"),
+        Stop::Paused => shown::text(alloc, "Paused"),
     }
 }
 
@@ -340,11 +435,16 @@ fn job_not_added<T: Clocked>(alloc: Global, refused: NotAdded<FlakyJob, T>) -> R
     shown::pair(alloc, error, given)
 }
 
+// The same of a job that isn't put in another's place.
+fn job_not_replaced(alloc: Global, refused: NotReplaced<FlakyJob>) -> Result<Value> {
+    let error = shown::text(alloc, error_name(&refused.error)?)?;
+    shown::pair(alloc, error, shown::text(alloc, refused.job.as_str())?)
+}
+
 fn error_name(error: &AddError) -> Result<&'static str> {
     match error {
         AddError::OutOfMemory => Err(Fault::OutOfMemory),
         AddError::NoIdLeft => Ok("NoIdLeft"),
-        AddError::PositionNotHeld => Ok("PositionNotHeld"),
         AddError::SecondBeforeNotHeld => Ok("SecondBeforeNotHeld"),
         AddError::NoJob => Ok("NoJob"),
     }
@@ -360,7 +460,18 @@ fn shown_skip(alloc: Global, skip: Skip) -> Result<Value> {
         Skip::Moved { is_stopped } => ("Moved", is_stopped),
         Skip::AlreadyThere => ("AlreadyThere", false),
         Skip::NoJob => ("NoJob", false),
+        Skip::Paused => ("Paused", false),
         Skip::NotHeld => ("NotHeld", false),
+    };
+    with_stop_mark(alloc, shown::text(alloc, name)?, is_stopped)
+}
+
+fn shown_resume(alloc: Global, resume: Resume) -> Result<Value> {
+    let (name, is_stopped) = match resume {
+        Resume::GoesOn { is_stopped } => ("GoesOn", is_stopped),
+        Resume::NotPaused => ("NotPaused", false),
+        Resume::NoJob => ("NoJob", false),
+        Resume::NotHeld => ("NotHeld", false),
     };
     with_stop_mark(alloc, shown::text(alloc, name)?, is_stopped)
 }

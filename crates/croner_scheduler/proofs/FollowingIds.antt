@@ -1,7 +1,9 @@
 -- Ids that follow one another.
-use Rattle.std.proofs.Common.{◌≡◌, refl, sym, ap, ◌∙◌, arith, ℕ, zero, suc, ◌+◌, ◌-◌, ◌<◌, ◌≤◌, false, [], ◌∷◌, ◌++◌, length, get_or, slice_index_or, nat_cmp}
+use Rattle.std.proofs.Common.{◌≡◌, refl, sym, ap, ◌∙◌, arith, ◌⊎◌, inl, inr, ℕ, zero, suc, ◌+◌, ◌-◌, ◌<◌, ◌≤◌, max, false, [], ◌∷◌, ◌++◌, length, get_or, slice_index_or, nat_cmp, Ordering, Less, Equal, Greater}
+use Rattle.std.proofs.lemmas.Cmp.{ranked}
 use Rattle.std.specs.BTreeMap.{is_at}
 use Rattle.std.specs.List.{AllByRecursion}
+use Rattle.std.specs.Ordering.{MatchOrdering}
 use Rattle.croner_scheduler.proofs.SameIds.{other_id}
 use Rattle.croner_scheduler.specs.Private.Places.{ids_from}
 
@@ -36,6 +38,23 @@ none_below first next = none_before first (next - first)
 
 pub none_above : (first next id : ℕ) → first ≤ next → next ≤ id → AllByRecursion (λ other. is_at (nat_cmp id) other ≡ false) (ids_from first (next - first))
 none_above first next id le above = none_behind first (next - first) id (omega (arith, le, above))
+
+-- between an id and the lowest that isn't below it there is none, and where that is behind the last there is none above
+module _ (first next id lowest : ℕ) (le : first ≤ next) (is : lowest ≡ max id first) where
+  pub none_between : lowest < next → (other : ℕ) → id ≤ other → other < lowest → AllByRecursion (λ item. is_at (nat_cmp other) item ≡ false) (ids_from first (next - first))
+  none_between lt other above below = none_below first next other (omega (arith, is, above, below))
+
+  pub none_left : next ≤ lowest → (other : ℕ) → id ≤ other → AllByRecursion (λ item. is_at (nat_cmp other) item ≡ false) (ids_from first (next - first))
+  none_left ge other above = by (other_or_first (nat_cmp other first) (ranked other first _ refl))
+    where
+      other_or_first : (r : Ordering) → MatchOrdering r (other < first) (other ≡ first) (first < other) → (other < first) ⊎ (first ≤ other)
+      other_or_first Less lt = inl lt
+      other_or_first Equal same = inr (omega (arith, same))
+      other_or_first Greater gt = inr (omega (arith, gt))
+
+      by : (other < first) ⊎ (first ≤ other) → AllByRecursion (λ item. is_at (nat_cmp other) item ≡ false) (ids_from first (next - first))
+      by (inl lt) = none_below first next other lt
+      by (inr ge') = none_above first next other le (omega (arith, is, ge, above, ge'))
 
 -- the next one goes behind them
 one_behind : (first n : ℕ) → ids_from first n ++ (first + n) ∷ [] ≡ ids_from first (suc n)

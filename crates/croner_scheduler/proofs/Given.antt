@@ -10,11 +10,11 @@ use Rattle.croner_scheduler.proofs.Nearest.{same_second}
 use Rattle.croner_scheduler.specs.declared.waiting.Next.{Next}
 use Rattle.croner_scheduler.specs.declared.waiting.Next.TheVariants.{Run, Over, Stopped}
 use Rattle.croner_scheduler.specs.declared.waiting.Waiting.{Waiting}
-use Rattle.croner_scheduler.specs.Kept.{FitsNext, Fits}
+use Rattle.croner_scheduler.specs.Kept.{FitsOrPaused, Fits}
 use Rattle.croner_scheduler.specs.Private.Steps.{is_next_at}
 
 -- the second of a next run is held
-holds_next : (second : ℤ) (rs : Zone → ℤ → Type 0) (m : Moment) (n : Next) → is_next_at second n ≡ true → FitsNext rs m n → m.zone.holds second ≡ true
+holds_next : (second : ℤ) (rs : Zone → ℤ → Type 0) (m : Moment) (n : Next) → is_next_at second n ≡ true → FitsOrPaused rs m n → m.zone.holds second ≡ true
 holds_next second rs m (Run i) at fits = subst (λ i. m.zone.holds i ≡ true) (same_second i second at) fits.2
 holds_next second rs m Over at fits = absurd (false≢true at)
 holds_next second rs m (Stopped stop) at fits = absurd (false≢true at)

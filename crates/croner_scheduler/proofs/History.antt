@@ -3,9 +3,10 @@ use Rattle.std.proofs.Common.{rules, ◌≡◌, refl, sym, ap, ◌∙◌, subst,
 use Rattle.std.specs.Prelude.{⊤}
 use Rattle.std.proofs.lemmas.Bool.{false≢true}
 use Rattle.std.proofs.lemmas.Cmp.{int_ranked}
-use Rattle.std.proofs.lemmas.Int.{ints}
+use Rattle.std.proofs.lemmas.Int.{ints, int_max_is}
 use Rattle.std.proofs.lemmas.List.Elements.{All-nil, All-cons, All-head, All-tail, All-append, All-weaker, Contains-append_left, Contains-append_right}
 use Rattle.std.proofs.lemmas.List.Kept.{AllPairs-cons}
+use Rattle.std.specs.Int.{int_max}
 use Rattle.std.specs.List.{All, AllPairs, Contains}
 use Rattle.std.specs.Option.{IsSomeAnd}
 use Rattle.std.specs.Ordering.{MatchOrdering, int_cmp}
@@ -16,12 +17,15 @@ use Rattle.croner_base.specs.Zone.{Zone, Moment}
 use Rattle.croner_base.specs.declared.time.Direction.TheVariants.{Forward}
 use Rattle.croner.specs.search.Limit.{InSpan}
 use Rattle.croner_scheduler.specs.declared.latest.Latest.TheVariants as latest
+use Rattle.croner_scheduler.proofs.Puts.{can_be}
+use Rattle.croner_scheduler.specs.declared.resume.Resume.TheVariants as resumes
 use Rattle.croner_scheduler.specs.declared.skip.Skip.TheVariants.{Moved, AlreadyThere, NoJob, NotHeld}
+use Rattle.croner_scheduler.specs.declared.skip.Skip.TheVariants as skips
 use Rattle.croner_scheduler.specs.declared.waiting.Stop.{Stop}
 use Rattle.croner_scheduler.specs.declared.waiting.Stop.TheVariants as stops
-use Rattle.croner_scheduler.specs.Calls.{IsAdded, IsSame, IsSameBut, StandsAt, MovesTo, IsGivable, IsLastDue, AsksAgain, IsNotDue, ComesAfter, HasNoneSeen}
-use Rattle.croner_scheduler.specs.History.{Call, TakeDue, TakeLatestDue, SkipTo, Add, Replace, Remove, AskAgain, ChangeNothing, Makes, MakesInTurn, Stays, given_by, given, place_after, place_after_all, PassesOver, IsPassedOver, IsGivenBetween, GivesInTurn, AreDoneWith, KeepsNoneBack, CannotStop, NeverKeepsBack, StaysGone}
-use Rattle.croner_scheduler.specs.Kept.{StopsAt}
+use Rattle.croner_scheduler.specs.Calls.{IsAdded, IsSame, IsSameBut, StandsAt, MovesTo, IsGivable, IsLastDue, AsksAgain, IsStoppedBySearch, Pauses, paused, StandsOn, SkipsIf, IsNotDue, ComesAfter, HasNoneSeen}
+use Rattle.croner_scheduler.specs.History.{Call, TakeDue, TakeLatestDue, SkipTo, SkipAllTo, Add, Replace, Remove, AskAgain, Pause, ResumeFrom, ChangeNothing, Makes, MakesInTurn, Stays, given_by, given, place_after, place_after_all, PassesOver, IsPassedOver, IsGivenBetween, GivesInTurn, AreDoneWith, KeepsNoneBack, CannotStop, NeverKeepsBack, StaysGone}
+use Rattle.croner_scheduler.specs.Kept.{StopsAt, CanBeAt, is_paused}
 use Rattle.croner_scheduler.specs.Standing.{Standing, Held, Left, Seen}
 
 -- ---- numbers and lists
@@ -72,6 +76,11 @@ has_none : {X : Type 0} (o : Option X) → IsSome o → ¬ (o ≡ None)
 has_none None h e = false≢true h
 has_none (Some x) h e = apart e
 
+-- a stop that a search makes can be there
+can_stop : (m : Moment) (o : Option Stop) → IfSome o (StopsAt m) → IfSome o (CanBeAt m)
+can_stop m None why = tt
+can_stop m (Some stop) why = can_be m stop why
+
 -- ---- one job
 
 module _ {J : Type 0} (runs : J → Zone → ℤ → Type 0) where
@@ -110,7 +119,7 @@ module _ {J : Type 0} (runs : J → Zone → ℤ → Type 0) where
       job_is = stands.job_is;
       zone_is = stands.zone_is;
       on = subst (λ z. s.position.instant ≤ℤ z) (sym stands.instant) on;
-      stop = λ why. stands.stop;
+      stop = λ why. can_stop s'.position s'.stop stands.stop;
       ordered = ordered;
       between = subst (λ z. All (λ j. (s.position.instant <ℤ j) × (j ≤ℤ z)) items) (sym stands.instant) between;
       passed_between = subst (λ z. (j : ℤ) → passed j → (s.position.instant <ℤ j) × (j ≤ℤ z)) (sym stands.instant) passed_between;
@@ -233,12 +242,45 @@ module _ {J : Type 0} (runs : J → Zone → ℤ → Type 0) where
     asked : (id : ℕ) → AsksAgain id h h' true → GoesBy [] s.position.instant (λ j. ⊥)
     asked id makes = elim (same_or_not k id) [
       | inl same ↦
-          let g = and_some _ (h.jobs k) s there (subst (λ n. IsSomeAnd (h.jobs n) (λ s. IsSome s.stop × MovesTo h n s.position.instant h')) (sym same) makes) in
+          let g = and_some _ (h.jobs k) s there (subst (λ n. IsSomeAnd (h.jobs n) (λ s. IsStoppedBySearch s × MovesTo h n s.position.instant h')) (sym same) makes) in
           let at = stood k s.position.instant g.1 refl in
           (at.0, at.1, none s at.0 s.position.instant at.2 (omega (arith, ints)) (λ j. ⊥) (λ j over. absurd over) (λ calm j left le. absurd (omega (arith, ints, left.0, le))), at.2.instant)
       | inr other ↦
           let g = some_of _ (h.jobs id) makes in
           rests (g.2.1.rest.others k other)
+    ]
+
+    -- a job that moves on to now, or doesn't
+    skipped : (b : Bool) (now : ℤ) → SkipsIf b now (h.jobs k) (h'.jobs k)
+        → GoesBy [] (cond b now s.position.instant) (λ j. (b ≡ true) × (s.position.instant <ℤ j) × (j ≤ℤ now))
+    skipped false now is = stays _ (λ j over. false≢true over.0) is
+    skipped true now is =
+        let g = and_some _ (h.jobs k) s there is in
+        let at = some_of (StandsOn now s) (h'.jobs k) g.1 in
+        (at.0, at.1, none s at.0 now at.2.0 (omega (arith, ints, g.0)) _ (λ j over. (over.1, over.2)) (λ calm j left le. (refl, left.0, le)), at.2.0.instant)
+
+    -- a job that is paused stands where it stood
+    rests_paused : (id : ℕ) → Pauses id h h' true → GoesBy [] s.position.instant (λ j. ⊥)
+    rests_paused id makes = elim (same_or_not k id) [
+      | inl same ↦
+          let is = and_some _ (h.jobs k) s there (subst (λ n. IsSomeAnd (h.jobs n) (λ s. h'.jobs n ≡ Some (paused s))) (sym same) makes.0) in (
+            paused s,
+            is,
+            record {
+              job_is = refl;
+              zone_is = refl;
+              on = omega (arith, ints);
+              stop = λ why. tt;
+              ordered = λ i j d lt within. absurd (omega (arith, within));
+              between = All-nil _;
+              passed_between = λ i over. absurd over;
+              apart = All-nil _;
+              are_runs = λ calm. All-nil _;
+              either = λ calm i left. inr (inr left);
+            },
+            refl,
+          )
+      | inr other ↦ rests (makes.1.others k other)
     ]
 
     goes : (call : Call J) → Makes runs call h h' → Stays k call → Goes call
@@ -269,7 +311,7 @@ module _ {J : Type 0} (runs : J → Zone → ℤ → Type 0) where
     goes (TakeLatestDue id now (latest.Refused e)) makes stay = rests (makes.1.jobs k)
     goes (SkipTo id now (Moved b)) makes stay = by_id_none id now _
         (λ same. let at = stood id now makes.1 same in
-        let g = and_some _ (h.jobs k) s there (subst (λ n. IsSomeAnd (h.jobs n) (λ s. s.position.instant <ℤ now)) (sym same) (weaker _ _ (λ s g. g.0) (h.jobs id) makes.0)) in (
+        let g = and_some _ (h.jobs k) s there (subst (λ n. IsSomeAnd (h.jobs n) (λ s. s.position.instant <ℤ now)) (sym same) (weaker _ _ (λ s g. g.0.0) (h.jobs id) makes.0)) in (
           at.0,
           at.1,
           none s at.0 now at.2 (omega (arith, ints, g)) _ (λ j over. (over.1, over.2)) (λ calm j left le. (sym same, left.0, le)),
@@ -279,12 +321,32 @@ module _ {J : Type 0} (runs : J → Zone → ℤ → Type 0) where
         (λ other. makes.1.rest.others k other)
     goes (SkipTo id now AlreadyThere) makes stay = rests (makes.1.jobs k)
     goes (SkipTo id now NoJob) makes stay = rests (makes.1.jobs k)
+    goes (SkipTo id now skips.Paused) makes stay = rests (makes.1.jobs k)
     goes (SkipTo id now NotHeld) makes stay = rests (makes.1.jobs k)
+    goes (SkipAllTo now moves) makes stay = skipped (moves k) now (makes.each k)
     goes (Add job position id) makes stay = rests (makes.others k (λ same. apart (sym there ∙ ap h.jobs same ∙ makes.unused)))
     goes (Replace id job position) makes stay = rests (makes.1.rest.others k (λ same. stay (sym same)))
     goes (Remove id) makes stay = rests (makes.others k (λ same. stay (sym same)))
     goes (AskAgain id true) makes stay = asked id makes
     goes (AskAgain id false) makes stay = rests (makes.1.jobs k)
+    goes (Pause id true) makes stay = rests_paused id makes
+    goes (Pause id false) makes stay = rests (makes.1.jobs k)
+    goes (ResumeFrom id from (resumes.GoesOn b)) makes stay = by_id_none id (int_max s.position.instant from) _
+        (λ same. let g = and_some _ (h.jobs k) s there (subst (λ n. IsSomeAnd (h.jobs n) (λ s. MovesTo h n (int_max s.position.instant from) h')) (sym same) (weaker _ _ (λ s g. g.1) (h.jobs id) makes)) in
+        let at = stood k (int_max s.position.instant from) g refl in
+        let greater = int_max_is s.position.instant from in (
+          at.0,
+          at.1,
+          none s at.0 (int_max s.position.instant from) at.2 (omega (arith, ints, greater)) _
+              (λ j over. (over.1, omega (arith, ints, over.2, greater)))
+              (λ calm j left le. (sym same, left.0, omega (arith, ints, left.0, le, greater))),
+          at.2.instant,
+        ))
+        (λ other j over. other (sym over.0))
+        (λ other. let some = some_of _ (h.jobs id) makes in some.2.1.rest.others k other)
+    goes (ResumeFrom id from resumes.NotPaused) makes stay = rests (makes.1.jobs k)
+    goes (ResumeFrom id from resumes.NoJob) makes stay = rests (makes.1.jobs k)
+    goes (ResumeFrom id from resumes.NotHeld) makes stay = rests (makes.1.jobs k)
     goes ChangeNothing makes stay = rests (makes.jobs k)
 
   -- ---- calls one after the other
@@ -336,13 +398,14 @@ module _ {J : Type 0} (runs : J → Zone → ℤ → Type 0) where
     }
 
   -- a job whose search can't be refused isn't stopped
-  not_stopped : (s s' : Standing J) → (IfSome s.stop (StopsAt s.position) → IfSome s'.stop (StopsAt s'.position)) → CannotStop s s' → s'.stop ≡ None
-  not_stopped s s' kept can = by s'.stop (kept can.0)
+  not_stopped : (s s' : Standing J) → (IfSome s.stop (CanBeAt s.position) → IfSome s'.stop (CanBeAt s'.position)) → CannotStop s s' → s'.stop ≡ None
+  not_stopped s s' kept can = by s'.stop (kept can.0) can.2
     where
-      by : (o : Option Stop) → IfSome o (StopsAt s'.position) → o ≡ None
-      by None why = refl
-      by (Some stops.NotLater) why = absurd (why can.1.starts)
-      by (Some (stops.Refused refusal)) why = absurd (why can.1)
+      by : (o : Option Stop) → IfSome o (CanBeAt s'.position) → is_paused o ≡ false → o ≡ None
+      by None why goes = refl
+      by (Some stops.NotLater) why goes = absurd (why can.1.starts)
+      by (Some (stops.Refused refusal)) why goes = absurd (why can.1)
+      by (Some stops.Paused) why goes = absurd (false≢true (sym goes))
 
   pub never_keeps_back : (h : Held J) → NeverKeepsBack runs h
   never_keeps_back h calls h' makes k s there stay calm =
@@ -367,12 +430,20 @@ module _ {J : Type 0} (runs : J → Zone → ℤ → Type 0) where
   grows h h' (SkipTo id now (Moved b)) makes = omega (arith, makes.1.rest.next_id)
   grows h h' (SkipTo id now AlreadyThere) makes = omega (arith, makes.1.next_id)
   grows h h' (SkipTo id now NoJob) makes = omega (arith, makes.1.next_id)
+  grows h h' (SkipTo id now skips.Paused) makes = omega (arith, makes.1.next_id)
   grows h h' (SkipTo id now NotHeld) makes = omega (arith, makes.1.next_id)
+  grows h h' (SkipAllTo now moves) makes = omega (arith, makes.next_id)
   grows h h' (Add job position id) makes = omega (arith, makes.next_id)
   grows h h' (Replace id job position) makes = omega (arith, makes.1.rest.next_id)
   grows h h' (Remove id) makes = omega (arith, makes.next_id)
   grows h h' (AskAgain id true) makes = let some = some_of _ (h.jobs id) makes in omega (arith, some.2.1.rest.next_id)
   grows h h' (AskAgain id false) makes = omega (arith, makes.1.next_id)
+  grows h h' (Pause id true) makes = omega (arith, makes.1.next_id)
+  grows h h' (Pause id false) makes = omega (arith, makes.1.next_id)
+  grows h h' (ResumeFrom id from (resumes.GoesOn b)) makes = let some = some_of _ (h.jobs id) makes in omega (arith, some.2.1.rest.next_id)
+  grows h h' (ResumeFrom id from resumes.NotPaused) makes = omega (arith, makes.1.next_id)
+  grows h h' (ResumeFrom id from resumes.NoJob) makes = omega (arith, makes.1.next_id)
+  grows h h' (ResumeFrom id from resumes.NotHeld) makes = omega (arith, makes.1.next_id)
   grows h h' ChangeNothing makes = omega (arith, makes.next_id)
 
   pub grow : (calls : List (Call J)) (h h' : Held J) → MakesInTurn runs calls h h' → h.next_id ≤ h'.next_id
@@ -402,6 +473,10 @@ module _ {J : Type 0} (runs : J → Zone → ℤ → Type 0) where
     but : (id : ℕ) → IsSameBut id h h' → ¬ (k ≡ id) → h'.jobs k ≡ None
     but id rest other = rest.others k other ∙ none
 
+    still_none : (b : Bool) (now : ℤ) → SkipsIf b now (h.jobs k) (h'.jobs k) → h'.jobs k ≡ None
+    still_none false now is = is ∙ none
+    still_none true now is = absurd (absent _ k is refl)
+
     gone_after : (call : Call J) → Makes runs call h h' → Gone (given_by k call)
     gone_after (TakeDue now None) makes = unchanged makes.1
     gone_after (TakeDue now (Some due)) makes =
@@ -417,7 +492,9 @@ module _ {J : Type 0} (runs : J → Zone → ℤ → Type 0) where
     gone_after (SkipTo id now (Moved b)) makes = (refl, but id makes.1.rest (absent _ id makes.0))
     gone_after (SkipTo id now AlreadyThere) makes = unchanged makes.1
     gone_after (SkipTo id now NoJob) makes = unchanged makes.1
+    gone_after (SkipTo id now skips.Paused) makes = unchanged makes.1
     gone_after (SkipTo id now NotHeld) makes = unchanged makes.1
+    gone_after (SkipAllTo now moves) makes = (refl, still_none (moves k) now (makes.each k))
     gone_after (Add job position id) makes = (refl, makes.others k (never job position id makes) ∙ none)
     gone_after (Replace id job position) makes =
         (refl, but id makes.1.rest (λ same. has_none (h.jobs id) makes.0 (subst (λ n. h.jobs n ≡ None) same none)))
@@ -428,6 +505,13 @@ module _ {J : Type 0} (runs : J → Zone → ℤ → Type 0) where
     gone_after (AskAgain id true) makes =
         let some = some_of _ (h.jobs id) makes in (refl, but id some.2.1.rest (absent _ id makes))
     gone_after (AskAgain id false) makes = unchanged makes.1
+    gone_after (Pause id true) makes = (refl, but id makes.1 (absent _ id makes.0))
+    gone_after (Pause id false) makes = unchanged makes.1
+    gone_after (ResumeFrom id from (resumes.GoesOn b)) makes =
+        let some = some_of _ (h.jobs id) makes in (refl, but id some.2.1.rest (absent _ id makes))
+    gone_after (ResumeFrom id from resumes.NotPaused) makes = unchanged makes.1
+    gone_after (ResumeFrom id from resumes.NoJob) makes = unchanged makes.1
+    gone_after (ResumeFrom id from resumes.NotHeld) makes = unchanged makes.1
     gone_after ChangeNothing makes = unchanged makes
 
   pub stays_gone : (h : Held J) → StaysGone runs h

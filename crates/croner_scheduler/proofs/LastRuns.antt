@@ -1,5 +1,5 @@
 -- The last run of a job that is due is what its search backward answers.
-use Rattle.std.proofs.Common.{rules, ◌≡◌, refl, sym, ap, subst, arith, ℕ, ℤ, ◌<ℤ◌, ◌≤ℤ◌, int_lt, int_le, Bool, true, false, cond, None, Some, IfOk, IfSome}
+use Rattle.std.proofs.Common.{rules, ◌≡◌, refl, sym, ap, subst, arith, ℕ, ℤ, ◌<ℤ◌, ◌≤ℤ◌, int_lt, int_le, Bool, true, false, cond, None, Some, IfOk, IfSome, OnErr, IsTrue}
 use Rattle.std.proofs.Math.Logic.{∥∥₁_elim, ∥∥₁_map}
 use Rattle.std.proofs.Props.{props}
 use Rattle.std.proofs.lemmas.Bool.{false≢true}
@@ -22,12 +22,12 @@ use Rattle.croner_scheduler.specs.declared.waiting.Next.{Next}
 use Rattle.croner_scheduler.specs.declared.waiting.Next.TheVariants.{Run, Over, Stopped}
 use Rattle.croner_scheduler.specs.declared.waiting.Waiting.{Waiting}
 use Rattle.croner_scheduler.specs.Calls.{IsNotDue, IsLastDue, TakesLatest}
-use Rattle.croner_scheduler.specs.Kept.{StopsAt, FitsNext, Fits, standing_of, stop_of, second_of}
+use Rattle.croner_scheduler.specs.Kept.{StopsAt, FitsNext, FitsOrPaused, Fits, standing_of, stop_of, second_of}
 use Rattle.croner_scheduler.specs.Private.Latest.{due_second, last_of_run, last_of_refusal, FitsLast, IsLastGiven}
 use Rattle.croner_scheduler.specs.Private.Steps.{is_next_at}
 use Rattle.croner_scheduler.specs.Standing.{Standing, Held}
 use Rattle.croner_scheduler.proofs.Nearest.{seen_before, same_second, is_itself}
-use Rattle.croner_scheduler.proofs.NextRuns.{not_promised}
+use Rattle.croner_scheduler.proofs.NextRuns.{not_promised, lacks_memory}
 
 module _ {T : Type 0} (runs : Zone → ℤ → Type 0) (moment : T → Moment) (next : ℤ) (until : T) where
   found_by : (found : T) (b d : Bool) → int_lt next (moment found).instant ≡ b → int_le (moment found).instant (moment until).instant ≡ d
@@ -57,6 +57,17 @@ module _ {T : Type 0} (runs : Zone → ℤ → Type 0) (moment : T → Moment) (
   last_refused lack (IllegalCharacters m) is = not_promised Backward runs (moment until) lack _ is (λ e. cc) (λ e. cc)
   last_refused lack (ComponentError m) is = not_promised Backward runs (moment until) lack _ is (λ e. cc) (λ e. cc)
   last_refused lack OutOfMemory is = tt
+
+  -- memory lacks only where the backend can lack it
+  pub lacks_refused : (lack : Bool) (e : CronError) → IsRunRefused lack Backward runs (moment until) e → OnErr (last_of_refusal {T = T} e) (IsTrue lack)
+  lacks_refused lack EmptyPattern is = tt
+  lacks_refused lack InvalidDate is = tt
+  lacks_refused lack InvalidTime is = tt
+  lacks_refused lack TimeSearchLimitExceeded is = tt
+  lacks_refused lack (InvalidPattern m) is = tt
+  lacks_refused lack (IllegalCharacters m) is = tt
+  lacks_refused lack (ComponentError m) is = tt
+  lacks_refused lack OutOfMemory is = lacks_memory lack is.kind
 
 -- ---- what is given
 
@@ -98,7 +109,7 @@ module _ {J T : Type 0} (runs : J → Zone → ℤ → Type 0) (moment : T → M
   -- a job whose next run is due
   module _ (w : Waiting J T) (fits : ∥ Fits runs moment w ∥₁) (known : ℤ) (next : w.next ≡ Run known) (due : known ≤ℤ now) where
     next_fits : Fits runs moment w → FitsNext (runs w.job) (moment w.position) (Run known)
-    next_fits f = subst (λ n. FitsNext (runs w.job) (moment w.position) n) next f.next
+    next_fits f = subst (λ n. FitsOrPaused (runs w.job) (moment w.position) n) next f.next
 
     after_position : (moment w.position).instant <ℤ known
     after_position = ∥∥₁_elim fits (hlevel props) (λ f. (next_fits f).1)

@@ -10,11 +10,17 @@ pub mod LastRuns
 pub mod Nearest
 pub mod Puts
 pub mod Passed
+pub mod Pauses
 pub mod Given
 pub mod StopLists
+pub mod PartsLists
+pub mod StopCounts
+pub mod Skips
 pub mod History
 pub mod Lives
+pub mod Restarts
 pub mod ExamplesHistory
+pub mod ExamplesWaits
 pub mod ExamplesLatest
 pub mod ExamplesStops
 pub mod ExamplesPlaces

@@ -1,11 +1,11 @@
--- What calls give of an id over a replace, and from the add of its job to its removal: lists of calls are cut where these stand.
+-- What calls give of an id over replaces, and from the add of its job to its removal: lists of calls are cut where these stand.
 use Rattle.std.proofs.Common.{◌≡◌, refl, sym, ap, ◌∙◌, arith, ◌≤◌, ℕ, ℤ, List, [], ◌∷◌, ◌++◌, None, Some}
 use Rattle.std.proofs.lemmas.List.{append_assoc, append-nil}
 use Rattle.croner_base.specs.Zone.{Zone}
 use Rattle.croner_scheduler.proofs.History.{some_of, gives_in_turn, grow, stays_fresh, stays_gone}
 use Rattle.croner_scheduler.specs.Calls.{StandsAt}
 use Rattle.croner_scheduler.specs.History.{Call, Add, Replace, Remove, MakesInTurn, given, given_by}
-use Rattle.croner_scheduler.specs.Lives.{GivesAcross, GivesOfOneLife}
+use Rattle.croner_scheduler.specs.Lives.{Replacing, with_replaces, GivesAcross, GivesOfOneLife}
 use Rattle.croner_scheduler.specs.Standing.{Held}
 
 given_append : {J : Type 0} (k : ℕ) (before rest : List (Call J)) → given k (before ++ rest) ≡ given k before ++ given k rest
@@ -23,12 +23,17 @@ module _ {J : Type 0} (runs : J → Zone → ℤ → Type 0) where
       (more.0, (makes.0, makes.1, more.1), more.2)
 
   pub gives_across : (h : Held J) → GivesAcross runs h
-  gives_across h before after k job position h' makes s there stay_before stay_after =
-      let at = cut before (Replace k job position ∷ after) h h' makes in
-      let first = gives_in_turn runs h before at.0 at.1 k s there stay_before in
-      let start = some_of (StandsAt job position.zone position.instant) (at.2.0.jobs k) at.2.1.1.put in
-      let second = gives_in_turn runs at.2.0 after h' at.2.2 k start.0 start.1 stay_after in
-      (first.0, start.0, second.0, first.2, start.2, second.2, second.1, given_append k before (Replace k job position ∷ after))
+  gives_across h calls [] k h' makes s there stay = let life = gives_in_turn runs h calls h' makes k s there stay in (life.0, life.2, life.1, refl)
+  gives_across h calls (next ∷ more) k h' makes s there stay =
+      let at = cut calls (Replace k next.job next.position ∷ with_replaces k next.calls more) h h' makes in
+      let first = gives_in_turn runs h calls at.0 at.1 k s there stay.0 in
+      let start = some_of (StandsAt next.job next.position.zone next.position.instant) (at.2.0.jobs k) at.2.1.1.put in
+      let rest = gives_across at.2.0 next.calls more k h' at.2.2 start.0 start.1 stay.1 in (
+        rest.0,
+        (first.0, start.0, first.2, start.2, rest.1),
+        rest.2,
+        given_append k calls (Replace k next.job next.position ∷ with_replaces k next.calls more) ∙ ap (λ items. given k calls ++ items) rest.3,
+      )
 
   pub gives_of_one_life : (h : Held J) → ((id : ℕ) → h.next_id ≤ id → h.jobs id ≡ None) → GivesOfOneLife runs h
   gives_of_one_life h fresh before during after k job position h' makes stay =

@@ -21,7 +21,7 @@ use Rattle.croner_scheduler.specs.Standing.{Standing, Held, Seen}
 use Rattle.croner_scheduler.specs.Awaited.{WaitsAfter, AwaitsFirst, IsSomeDue}
 use Rattle.croner_scheduler.specs.Calls.{IsGivable, ComesAfter, IsFirst, IsNotDue, HasNoneSeen, IsNearest}
 use Rattle.croner_scheduler.specs.Private.Turns.{IsFirstTurn}
-use Rattle.croner_scheduler.specs.Kept.{standing_of, stop_of, FitsNext, Fits, second_of}
+use Rattle.croner_scheduler.specs.Kept.{standing_of, stop_of, FitsOrPaused, Fits, second_of}
 use Rattle.croner_scheduler.specs.Private.Steps.{is_next_at, is_awaited_at}
 
 pub same_second : (a b : ℤ) → int_eq a b ≡ true → a ≡ b
@@ -44,7 +44,7 @@ is_itself a = by (int_cmp a a) (int_ranked a a _ refl)
 
 module _ (runs : Zone → ℤ → Type 0) (m : Moment) (whole : m.fraction ≡ 0) (calm : IsCalm m.zone) where
   -- a run that is left comes no earlier than the next one
-  next_before : (n : Next) → FitsNext runs m n → stop_of n ≡ None → (j : ℤ) → m.instant <ℤ j → runs m.zone j → InSpan Forward m.zone.reads j
+  next_before : (n : Next) → FitsOrPaused runs m n → stop_of n ≡ None → (j : ℤ) → m.instant <ℤ j → runs m.zone j → InSpan Forward m.zone.reads j
       → (i : ℤ) × (is_next_at i n ≡ true) × (i ≤ℤ j)
   next_before (Run i) fits goes j after run span =
       (i, is_itself i, omega (arith, ints, (fits.0.nearest (record { calm = calm; whole = whole })).nearest j (after, run)))
@@ -86,7 +86,7 @@ module _ {J T : Type 0} (runs : J → Zone → ℤ → Type 0) (moment : T → M
     pub givable : (i : ℤ) → is_awaited_at i o ≡ true → IsSomeAnd (option_map (standing_of moment) o) (IsGivable runs i)
     givable i at = givable_by o fits at
       where
-        givable_next : (rs : Zone → ℤ → Type 0) (m : Moment) (n : Next) → is_next_at i n ≡ true → FitsNext rs m n → m.fraction ≡ 0
+        givable_next : (rs : Zone → ℤ → Type 0) (m : Moment) (n : Next) → is_next_at i n ≡ true → FitsOrPaused rs m n → m.fraction ≡ 0
             → (m.instant <ℤ i) × (IsCalm m.zone → rs m.zone i) × (IsCalm m.zone → (j : ℤ) → (m.instant <ℤ j) × rs m.zone j → i ≤ℤ j)
         givable_next rs m (Run j) at fits whole =
             let same = same_second j i at in (

@@ -1,5 +1,5 @@
 -- What comes next of a job is what its search answers.
-use Rattle.std.proofs.Common.{rules, ◌≡◌, refl, subst, inl, inr, ℤ, ◌<ℤ◌, int_lt, Bool, true, false, IfOk}
+use Rattle.std.proofs.Common.{rules, ◌≡◌, refl, subst, inl, inr, ℤ, ◌<ℤ◌, int_lt, Bool, true, false, IfOk, OnErr, IsTrue}
 use Rattle.croner_base.specs.declared.errors.CronError.{CronError}
 use Rattle.croner_base.specs.declared.errors.CronError.TheVariants.{EmptyPattern, InvalidDate, InvalidTime, TimeSearchLimitExceeded, InvalidPattern, IllegalCharacters, ComponentError, OutOfMemory}
 use Rattle.croner_base.specs.declared.time.Direction.{Direction}
@@ -7,7 +7,7 @@ use Rattle.croner_base.specs.declared.time.Direction.TheVariants.{Forward}
 use Rattle.croner_base.specs.Zone.{Zone, Moment}
 use Rattle.croner.specs.Recurring.{IsRunFound, IsRunRefused}
 use Rattle.croner.specs.search.Premises.{IsSearchable}
-use Rattle.croner.specs.search.Refusal.{IsLimitOrMemory}
+use Rattle.croner.specs.search.Refusal.{IsLimitOrMemory, IsRefusal}
 use Rattle.croner_scheduler.specs.Kept.{FitsNext}
 use Rattle.croner_scheduler.specs.Private.Steps.{next_of_run, next_of_refusal}
 
@@ -19,6 +19,13 @@ not_promised direction runs m lack e is limit memory h = apart (is.promised h)
     apart : ¬ (IsLimitOrMemory lack e)
     apart (inl same) = limit same
     apart (inr same) = memory same.0
+
+-- a backend that lacks memory can
+pub lacks_memory : (lack : Bool) → IsRefusal lack OutOfMemory → IsTrue lack
+lacks_memory lack (inl (inl same)) = absurd (cc)
+lacks_memory lack (inl (inr both)) = both.1
+lacks_memory lack (inr (inl same)) = absurd (cc)
+lacks_memory lack (inr (inr same)) = absurd (cc)
 
 module _ (runs : Zone → ℤ → Type 0) (position : Moment) where
   found_by : (found : Moment) (b : Bool) → int_lt position.instant found.instant ≡ b → found.zone.holds found.instant ≡ true → IsRunFound Forward runs position found
@@ -44,3 +51,14 @@ module _ (runs : Zone → ℤ → Type 0) (position : Moment) where
   fits_refused lack (IllegalCharacters m) is = not_promised Forward runs position lack _ is (λ e. cc) (λ e. cc)
   fits_refused lack (ComponentError m) is = not_promised Forward runs position lack _ is (λ e. cc) (λ e. cc)
   fits_refused lack OutOfMemory is = tt
+
+  -- and lack of memory only where the backend can lack it
+  pub lacks_refused : (lack : Bool) (e : CronError) → IsRunRefused lack Forward runs position e → OnErr (next_of_refusal e) (IsTrue lack)
+  lacks_refused lack EmptyPattern is = tt
+  lacks_refused lack InvalidDate is = tt
+  lacks_refused lack InvalidTime is = tt
+  lacks_refused lack TimeSearchLimitExceeded is = tt
+  lacks_refused lack (InvalidPattern m) is = tt
+  lacks_refused lack (IllegalCharacters m) is = tt
+  lacks_refused lack (ComponentError m) is = tt
+  lacks_refused lack OutOfMemory is = lacks_memory lack is.kind

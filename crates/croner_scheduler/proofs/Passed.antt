@@ -11,13 +11,13 @@ use Rattle.croner_scheduler.proofs.SameIds.{own_id, each}
 use Rattle.croner_scheduler.specs.declared.waiting.Next.{Next}
 use Rattle.croner_scheduler.specs.declared.waiting.Next.TheVariants.{Run, Over, Stopped}
 use Rattle.croner_scheduler.specs.declared.waiting.Waiting.{Waiting}
-use Rattle.croner_scheduler.specs.Kept.{FitsNext, Fits}
+use Rattle.croner_scheduler.specs.Kept.{FitsOrPaused, Fits}
 use Rattle.croner_scheduler.specs.Private.Steps.{jobs_with, job_standing_at, is_next_after, CanStand}
 
 module _ (rs : Zone → ℤ → Type 0) where
   -- what comes next from a moment comes next from a later one before it
   next_from : (m m' : Moment) → m'.zone ≡ m.zone → m.fraction ≡ 0 → m.instant <ℤ m'.instant → (n : Next) → is_next_after m'.instant n ≡ true
-      → FitsNext rs m n → FitsNext rs m' n
+      → FitsOrPaused rs m n → FitsOrPaused rs m' n
   next_from m m' zone whole on (Run i) later fits = (
     record {
       nearest = λ calm. let is = fits.0.nearest (record { calm = subst (λ z. IsCalm z) zone calm.calm; whole = whole }) in record {

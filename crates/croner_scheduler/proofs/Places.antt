@@ -1,5 +1,5 @@
 -- Jobs in places: whose job stands where, and what changes with one place.
-use Rattle.std.proofs.Common.{◌≡◌, refl, sym, ap, ◌∙◌, subst, arith, ℕ, zero, suc, ◌+◌, ◌<◌, ◌≤◌, Bool, true, false, cond, Option, Some, None, is_some, List, [], ◌∷◌, ◌++◌, length, get_or, set, inl, inr, eq-or-lt_of_le, ◌⊎◌, Err, if◌then◌else◌, option_map, nat_cmp, Ordering, Less, Equal, Greater, is_eq, is_lt, get_or-set_same, length-set}
+use Rattle.std.proofs.Common.{◌≡◌, refl, sym, ap, ◌∙◌, subst, arith, ℕ, zero, suc, ◌+◌, ◌<◌, ◌≤◌, Bool, true, false, cond, Option, Some, None, is_some, List, [], ◌∷◌, ◌++◌, length, get_or, set, inl, inr, eq-or-lt_of_le, ◌⊎◌, Err, IfSome, IfNone, Bor, if◌then◌else◌, option_map, nat_cmp, Ordering, Less, Equal, Greater, is_eq, is_lt, get_or-set_same, length-set}
 use Rattle.std.proofs.lemmas.Bool.{false≢true}
 use Rattle.std.proofs.lemmas.Cmp.{ranked}
 use Rattle.std.proofs.lemmas.List.{get_or_read}
@@ -8,7 +8,9 @@ use Rattle.std.specs.BTreeMap.{is_at}
 use Rattle.std.specs.List.{AllByRecursion}
 use Rattle.std.specs.List.Sorted.{IsStrictlySortedBy, IsBinarySearchResult}
 use Rattle.std.specs.Map.{keys_of, lookup}
+use Rattle.std.specs.Option.{option_copied}
 use Rattle.std.specs.Ordering.{MatchOrdering}
+use Rattle.std.specs.Slice.{IsItemAt}
 use Rattle.croner_scheduler.proofs.SameIds.{own_id, other_id, each}
 use Rattle.croner_scheduler.specs.Private.Places.{entries_in, ArePlaces}
 
@@ -34,7 +36,7 @@ pub all_by : {X : Type 0} (P Q : X → Type 0) → ((x : X) → P x → Q x) →
 all_by P Q f [] h = tt
 all_by P Q f (x ∷ xs) h = (f x h.0, all_by P Q f xs h.1)
 
-all_at : (P : ℕ → Type 0) (ids : List ℕ) (place : ℕ) → AllByRecursion P ids → place < length ids → P (get_or ids place 0)
+pub all_at : (P : ℕ → Type 0) (ids : List ℕ) (place : ℕ) → AllByRecursion P ids → place < length ids → P (get_or ids place 0)
 all_at P [] place h lt = absurd (omega (arith, lt))
 all_at P (id ∷ ids) zero h lt = h.0
 all_at P (id ∷ ids) (suc place) h lt = all_at P ids place h.1 (omega (arith, lt))
@@ -309,3 +311,66 @@ not_found ids id place result ordered =
         by Less before = let low = parts.1 k before in omega (arith, low, same)
         by Equal at = let high = parts.2 k (omega (arith, at)) lt in omega (arith, high, same)
         by Greater behind = let high = parts.2 k (omega (arith, behind)) lt in omega (arith, high, same)
+
+-- between an id that isn't found and the one in its place there is none
+pub none_up_to : (ids : List ℕ) (id place : ℕ) → IsBinarySearchResult (λ other. nat_cmp other id) ids (Err place) → IsStrictlySortedBy nat_cmp ids
+    → (other : ℕ) → id ≤ other → (place < length ids → other < get_or ids place 0) → AllByRecursion (λ item. is_at (nat_cmp other) item ≡ false) ids
+none_up_to ids id place result ordered other above below =
+    let parts = searched ids id (Err place) result (never_falls ids ordered) in
+    all_from (λ item. is_at (nat_cmp other) item ≡ false) ids (λ k lt. other_id other (get_or ids k 0) (apart parts k lt))
+  where
+    apart : (place ≤ length ids) × ((k : ℕ) → k < place → get_or ids k 0 < id) × ((k : ℕ) → place ≤ k → k < length ids → id < get_or ids k 0)
+        → (k : ℕ) → k < length ids → get_or ids k 0 ≡ other → ⊥
+    apart parts k lt same = by (nat_cmp k place) (ranked k place _ refl)
+      where
+        by : (r : Ordering) → MatchOrdering r (k < place) (k ≡ place) (place < k) → ⊥
+        by Less before = let low = parts.1 k before in omega (arith, low, same, above)
+        by Equal at = let high = below (omega (arith, at, lt)) in let rise = never_falls ids ordered place k (omega (arith, at)) lt in omega (arith, high, rise, same)
+        by Greater behind =
+            let high = below (omega (arith, behind, lt)) in
+            let rise = never_falls ids ordered place k (omega (arith, behind)) lt in
+            omega (arith, high, rise, same)
+
+-- the one in its place, if there is one, isn't below it
+module _ (ids : List ℕ) (id place : ℕ) (result : IsBinarySearchResult (λ other. nat_cmp other id) ids (Err place)) where
+  abbrev IsLowestFrom : Option ℕ → Type 0
+  IsLowestFrom o =
+      IfSome o (λ k. IsStrictlySortedBy nat_cmp ids → id ≤ k)
+      × IfSome o (λ k. IsStrictlySortedBy nat_cmp ids → (other : ℕ) → id ≤ other → other < k → AllByRecursion (λ item. is_at (nat_cmp other) item ≡ false) ids)
+      × IfNone o (IsStrictlySortedBy nat_cmp ids → (other : ℕ) → id ≤ other → AllByRecursion (λ item. is_at (nat_cmp other) item ≡ false) ids)
+
+  pub lowest_from : (item : Option (Bor ℕ)) → IsItemAt ids place item → (o : Option ℕ) → o ≡ option_copied item → IsLowestFrom o
+  lowest_from None is o copied = subst IsLowestFrom (sym copied) (tt, tt, λ ordered other above. none_up_to ids id place result ordered other above (λ lt. absurd (omega (arith, lt, is.3))))
+  lowest_from (Some x) is o copied = subst IsLowestFrom (sym copied) (
+    (λ ordered. let parts = searched ids id (Err place) result (never_falls ids ordered) in let up = parts.2 place (omega arith) is.3.0 in omega (arith, up, same)),
+    (λ ordered other above below. none_up_to ids id place result ordered other above (λ lt. omega (arith, below, same))),
+    tt,
+  )
+    where
+      same : x.now ≡ get_or ids place 0
+      same = get_or_read ids place x.now is.3.0 is.1 0
+
+-- an id without a place up to another has no job
+module _ {W : Type 0} (ids : List ℕ) (places : List (Option W)) (ordered : IsStrictlySortedBy nat_cmp ids) (id : ℕ) where
+  pub no_job_between : (o : Option ℕ)
+      → IfSome o (λ k. IsStrictlySortedBy nat_cmp ids → (other : ℕ) → id ≤ other → other < k → AllByRecursion (λ item. is_at (nat_cmp other) item ≡ false) ids)
+      → IfSome o (λ k. (other : ℕ) → id ≤ other → other < k → lookup (is_at (nat_cmp other)) (entries_in ids places) ≡ None)
+  no_job_between None none = tt
+  no_job_between (Some k) none = λ other above below. no_job other ids places (none ordered other above below)
+
+  pub no_job_left : (o : Option ℕ)
+      → IfNone o (IsStrictlySortedBy nat_cmp ids → (other : ℕ) → id ≤ other → AllByRecursion (λ item. is_at (nat_cmp other) item ≡ false) ids)
+      → IfNone o ((other : ℕ) → id ≤ other → lookup (is_at (nat_cmp other)) (entries_in ids places) ≡ None)
+  no_job_left None none = λ other above. no_job other ids places (none ordered other above)
+  no_job_left (Some k) none = tt
+
+-- what holds of ids in any order holds of those that rise
+pub with_order_some : (o : Option ℕ) (ids : List ℕ) (id : ℕ) → IfSome o (λ k. (other : ℕ) → id ≤ other → other < k → AllByRecursion (λ item. is_at (nat_cmp other) item ≡ false) ids)
+    → IfSome o (λ k. IsStrictlySortedBy nat_cmp ids → (other : ℕ) → id ≤ other → other < k → AllByRecursion (λ item. is_at (nat_cmp other) item ≡ false) ids)
+with_order_some None ids id none = tt
+with_order_some (Some k) ids id none = λ ordered. none
+
+pub with_order_none : (o : Option ℕ) (ids : List ℕ) (id : ℕ) → IfNone o ((other : ℕ) → id ≤ other → AllByRecursion (λ item. is_at (nat_cmp other) item ≡ false) ids)
+    → IfNone o (IsStrictlySortedBy nat_cmp ids → (other : ℕ) → id ≤ other → AllByRecursion (λ item. is_at (nat_cmp other) item ≡ false) ids)
+with_order_none None ids id none = λ ordered. none
+with_order_none (Some k) ids id none = tt

@@ -11,9 +11,11 @@ use Rattle.croner_base.specs.Zone.{Zone, Moment}
 use Rattle.croner_scheduler.proofs.SameIds.{own_id, other_id, each}
 use Rattle.croner_scheduler.specs.declared.waiting.Next.{Next}
 use Rattle.croner_scheduler.specs.declared.waiting.Next.TheVariants.{Run, Over, Stopped}
+use Rattle.croner_scheduler.specs.declared.waiting.Stop.{Stop}
+use Rattle.croner_scheduler.specs.declared.waiting.Stop.TheVariants.{NotLater, Refused, Paused}
 use Rattle.croner_scheduler.specs.declared.waiting.Waiting.{Waiting}
 use Rattle.croner_scheduler.specs.Calls.{StandsAt, is_asked, IsSameBut, MovesTo}
-use Rattle.croner_scheduler.specs.Kept.{standing_of, stop_of, StopsAt, FitsNext, Fits}
+use Rattle.croner_scheduler.specs.Kept.{standing_of, stop_of, StopsAt, CanBeAt, FitsNext, FitsOrPaused, Fits}
 use Rattle.croner_scheduler.specs.Standing.{Standing, Held}
 use Rattle.croner_scheduler.specs.Private.Steps.{jobs_with, again_of}
 
@@ -22,6 +24,18 @@ pub stops_where : (rs : Zone → ℤ → Type 0) (m : Moment) (n : Next) → Fit
 stops_where rs m (Run i) fits = tt
 stops_where rs m Over fits = tt
 stops_where rs m (Stopped stop) fits = fits
+
+-- a stop that a search makes can be there
+pub can_be : (m : Moment) (stop : Stop) → StopsAt m stop → CanBeAt m stop
+can_be m NotLater why = why
+can_be m (Refused refusal) why = why
+can_be m Paused why = absurd why
+
+-- what a search finds next fits
+pub fits_search : (rs : Zone → ℤ → Type 0) (m : Moment) (n : Next) → FitsNext rs m n → FitsOrPaused rs m n
+fits_search rs m (Run i) fits = fits
+fits_search rs m Over fits = fits
+fits_search rs m (Stopped stop) fits = can_be m stop fits
 
 module _ {J T : Type 0} (runs : J → Zone → ℤ → Type 0) (moment : T → Moment) (id : ℕ) (jobs jobs' : ℕ → Option (Waiting J T))
     (fits : (k : ℕ) → ∥ IfSome (jobs k) (Fits runs moment) ∥₁)
@@ -47,8 +61,8 @@ module _ {J T : Type 0} (runs : J → Zone → ℤ → Type 0) (moment : T → M
       next_id = next_id;
     }
 
-    pub put_moved : other.job ≡ w.job → (moment other.position).zone ≡ (moment w.position).zone → MovesTo h id (moment other.position).instant h'
-    put_moved job zone = record {
+    pub put_moved : IfSome (stop_of other.next) (StopsAt (moment other.position)) → other.job ≡ w.job → (moment other.position).zone ≡ (moment w.position).zone → MovesTo h id (moment other.position).instant h'
+    put_moved stop job zone = record {
       moved =
           subst (λ o. IfSome o (λ s. IsSomeAnd (h'.jobs id) (StandsAt s.job s.position.zone (moment other.position).instant)))
           (sym (is id ∙ ap (option_map (standing_of moment)) there))
@@ -58,7 +72,7 @@ module _ {J T : Type 0} (runs : J → Zone → ℤ → Type 0) (moment : T → M
             zone_is = zone;
             instant = refl;
             whole = fit.whole;
-            stop = stops_where (runs other.job) (moment other.position) other.next fit.next;
+            stop = stop;
           }));
       rest = put_rest;
     }

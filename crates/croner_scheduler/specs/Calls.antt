@@ -1,25 +1,28 @@
 -- What each call of a scheduler answers, and what it holds after it. Source: this crate's documentation.
-use Rattle.std.specs.Prelude.{◌≡◌, ◌⊎◌, pos, neg_ℤ, ◌-ℤ◌, Bool, true, ◌+◌, ◌-◌, ◌^◌, ◌≤◌, ⊤, false, ℕ, ℤ, ◌<ℤ◌, ◌≤ℤ◌, Option, None, Some, IfSome, IsSome, is_some}
+use Rattle.std.specs.Prelude.{◌≡◌, ◌⊎◌, pos, neg_ℤ, ◌-ℤ◌, Bool, true, ◌&&◌, int_lt, not, nat_lt, ◌+◌, ◌-◌, ◌^◌, ◌≤◌, ⊤, false, ℕ, ℤ, ◌<ℤ◌, ◌≤ℤ◌, Option, None, Some, IfSome, IsSome, is_some}
+use Rattle.std.specs.Int.{int_max}
 use Rattle.std.specs.Option.{IsSomeAnd}
 use Rattle.croner_base.specs.Calm.{IsCalm}
 use Rattle.croner_base.specs.declared.time.Direction.TheVariants.{Backward}
 use Rattle.croner_base.specs.Zone.{Zone, Moment, at_instant}
 use Rattle.croner.specs.search.Limit.{InSpan}
 use Rattle.croner_scheduler.specs.declared.add.AddError.{AddError}
-use Rattle.croner_scheduler.specs.declared.add.AddError.TheVariants.{OutOfMemory, NoIdLeft, PositionNotHeld, SecondBeforeNotHeld}
+use Rattle.croner_scheduler.specs.declared.add.AddError.TheVariants.{OutOfMemory, NoIdLeft, SecondBeforeNotHeld}
 use Rattle.croner_scheduler.specs.declared.add.AddError.TheVariants as errors
 use Rattle.croner_scheduler.specs.declared.add.NotAdded.{NotAdded}
 use Rattle.croner_scheduler.specs.declared.again.Again.{Again}
 use Rattle.croner_scheduler.specs.declared.again.Again.TheVariants.{GoesOn, StillStopped, NotStopped}
 use Rattle.croner_scheduler.specs.declared.latest.Latest.{Latest}
 use Rattle.croner_scheduler.specs.declared.latest.Latest.TheVariants as latest
+use Rattle.croner_scheduler.specs.declared.resume.Resume.{Resume}
+use Rattle.croner_scheduler.specs.declared.resume.Resume.TheVariants as resumes
 use Rattle.croner_scheduler.specs.declared.skip.Skip.{Skip}
-use Rattle.croner_scheduler.specs.declared.skip.Skip.TheVariants.{Moved, AlreadyThere, NoJob, NotHeld}
+use Rattle.croner_scheduler.specs.declared.skip.Skip.TheVariants.{Moved, AlreadyThere, NoJob, Paused, NotHeld}
 use Rattle.croner_scheduler.specs.declared.turns.Due.{Due}
 use Rattle.croner_scheduler.specs.declared.turns.Turn.{Turn}
 use Rattle.croner_scheduler.specs.declared.waiting.Stop.TheVariants as stops
 use Rattle.croner_scheduler.specs.Standing.{Standing, Held, Left, Seen}
-use Rattle.croner_scheduler.specs.Kept.{StopsAt}
+use Rattle.croner_scheduler.specs.Kept.{StopsAt, is_paused}
 
 -- both hold the same
 pub record IsSame {J : Type 0} (h h' : Held J) : Type 0 where
@@ -91,26 +94,64 @@ pub record MovesTo {J : Type 0} (h : Held J) (k : ℕ) (i : ℤ) (h' : Held J) :
 abbrev pub KeepsLater : {J : Type 0} → ℕ → ℤ → Held J → Standing J → Type 0
 KeepsLater k now h' s = IfSome s.next (λ i. now <ℤ i → IsSomeAnd (h'.jobs k) (λ s'. s'.next ≡ Some i))
 
--- the position of the job k moves on to now, a second that its zone holds; or it stands there already or later, there is no such job, or
--- its zone doesn't hold that second
+-- it stands before now, and isn't paused
+abbrev pub IsToSkip : {J : Type 0} → ℤ → Standing J → Type 0
+IsToSkip now s = (s.position.instant <ℤ now) × (is_paused s.stop ≡ false)
+
+-- the position of the job k moves on to now, a second that its zone holds; or it stands there already or later, there is no such job, it is
+-- paused, or its zone doesn't hold that second
 abbrev pub SkipsTo : {J : Type 0} → ℕ → ℤ → Held J → Held J → Skip → Type 0
 SkipsTo k now h h' (Moved b) =
-    IsSomeAnd (h.jobs k) (λ s. (s.position.instant <ℤ now) × (s.position.zone.holds now ≡ true) × KeepsLater k now h' s) × MovesTo h k now h'
+    IsSomeAnd (h.jobs k) (λ s. IsToSkip now s × (s.position.zone.holds now ≡ true) × KeepsLater k now h' s) × MovesTo h k now h'
 SkipsTo k now h h' AlreadyThere = IsSomeAnd (h.jobs k) (λ s. now ≤ℤ s.position.instant) × IsSame h h'
 SkipsTo k now h h' NoJob = (h.jobs k ≡ None) × IsSame h h'
-SkipsTo k now h h' NotHeld =
-    IsSomeAnd (h.jobs k) (λ s. (s.position.instant <ℤ now) × (s.position.zone.holds now ≡ false)) × IsSame h h'
+SkipsTo k now h h' Paused = IsSomeAnd (h.jobs k) (λ s. (s.position.instant <ℤ now) × (is_paused s.stop ≡ true)) × IsSame h h'
+SkipsTo k now h h' NotHeld = IsSomeAnd (h.jobs k) (λ s. IsToSkip now s × (s.position.zone.holds now ≡ false)) × IsSame h h'
 
 -- a skip that moved the job k tells whether it is stopped
 abbrev pub SkipTellsStop : {J : Type 0} → ℕ → Held J → Skip → Type 0
 SkipTellsStop k h (Moved is_stopped) = TellsStop h k is_stopped
 SkipTellsStop k h AlreadyThere = ⊤
 SkipTellsStop k h NoJob = ⊤
+SkipTellsStop k h Paused = ⊤
 SkipTellsStop k h NotHeld = ⊤
 
 -- a job that is to be moved on to now, a second that its zone holds, and has no later next run
 abbrev pub IsToMove : {J : Type 0} → ℤ → Standing J → Type 0
-IsToMove now s = (s.position.instant <ℤ now) × (s.position.zone.holds now ≡ true) × IfSome s.next (λ i. i ≤ℤ now)
+IsToMove now s = IsToSkip now s × (s.position.zone.holds now ≡ true) × IfSome s.next (λ i. i ≤ℤ now)
+
+-- it is behind now: there is a job, which stands before now in a zone that holds now, and isn't paused
+abbrev pub is_behind : {J : Type 0} → ℤ → Option (Standing J) → Bool
+is_behind now (Some s) = int_lt s.position.instant now && not (is_paused s.stop) && s.position.zone.holds now
+is_behind now None = false
+
+-- it stands at now from then on, and a next run that is later than now is kept
+abbrev pub StandsOn : {J : Type 0} → ℤ → Standing J → Standing J → Type 0
+StandsOn now s s' = StandsAt s.job s.position.zone now s' × IfSome s.next (λ i. now <ℤ i → s'.next ≡ Some i)
+
+-- a job moves on to now, from before it; or what is held of its id is as it was
+abbrev pub SkipsIf : {J : Type 0} → Bool → ℤ → Option (Standing J) → Option (Standing J) → Type 0
+SkipsIf true now before after = IsSomeAnd before (λ s. (s.position.instant <ℤ now) × IsSomeAnd after (StandsOn now s))
+SkipsIf false now before after = after ≡ before
+
+-- these jobs move on to now, and nothing else has changed
+pub record SkipsEach {J : Type 0} (moves : ℕ → Bool) (now : ℤ) (h h' : Held J) : Type 0 where
+  pub each : (k : ℕ) → SkipsIf (moves k) now (h.jobs k) (h'.jobs k)
+  pub count : h'.count ≡ h.count
+  pub next_id : h'.next_id ≡ h.next_id
+
+-- each job that is behind now
+abbrev pub SkipsAll : {J : Type 0} → ℤ → Held J → Held J → Type 0
+SkipsAll now h h' = SkipsEach (λ k. is_behind now (h.jobs k)) now h h'
+
+-- each of an id below n
+abbrev pub SkipsBelow : {J : Type 0} → ℕ → ℤ → Held J → Held J → Type 0
+SkipsBelow n now h h' = SkipsEach (λ k. nat_lt k n && is_behind now (h.jobs k)) now h h'
+
+-- it is told whether one of the jobs that were behind now is stopped
+abbrev pub TellsSkipped : {J : Type 0} → ℤ → Held J → Held J → Bool → Type 0
+TellsSkipped now h h' true = (k : ℕ) × (is_behind now (h.jobs k) ≡ true) × IsSomeAnd (h'.jobs k) (λ s. IsSome s.stop)
+TellsSkipped now h h' false = (k : ℕ) → is_behind now (h.jobs k) ≡ true → IfSome (h'.jobs k) (λ s. s.stop ≡ None)
 
 -- whether a job was searched again
 abbrev pub is_asked : Again → Bool
@@ -124,11 +165,44 @@ AgainTellsStop k h GoesOn = TellsStop h k false
 AgainTellsStop k h StillStopped = TellsStop h k true
 AgainTellsStop k h NotStopped = ⊤
 
--- the job k was stopped, and may from then on be stopped otherwise or go on, from where it stands; or there is no such job, or it isn't
--- stopped
+-- it is stopped, and not because it is paused
+abbrev pub IsStoppedBySearch : {J : Type 0} → Standing J → Type 0
+IsStoppedBySearch s = IsSome s.stop × (is_paused s.stop ≡ false)
+
+-- a search had stopped the job k, which may from then on be stopped otherwise or go on, from where it stands; or there is no such job, it
+-- isn't stopped, or it is paused
 abbrev pub AsksAgain : {J : Type 0} → ℕ → Held J → Held J → Bool → Type 0
-AsksAgain k h h' true = IsSomeAnd (h.jobs k) (λ s. IsSome s.stop × MovesTo h k s.position.instant h')
-AsksAgain k h h' false = IfSome (h.jobs k) (λ s. s.stop ≡ None) × IsSame h h'
+AsksAgain k h h' true = IsSomeAnd (h.jobs k) (λ s. IsStoppedBySearch s × MovesTo h k s.position.instant h')
+AsksAgain k h h' false = IfSome (h.jobs k) (λ s. (s.stop ≡ None) ⊎ (is_paused s.stop ≡ true)) × IsSame h h'
+
+-- the job as it was, but paused
+abbrev pub paused : {J : Type 0} → Standing J → Standing J
+paused s = record { job = s.job; position = s.position; stop = Some stops.Paused; next = None }
+
+-- the job k is paused from then on, and nothing else has changed; or there is no such job
+abbrev pub Pauses : {J : Type 0} → ℕ → Held J → Held J → Bool → Type 0
+Pauses k h h' true = IsSomeAnd (h.jobs k) (λ s. h'.jobs k ≡ Some (paused s)) × IsSameBut k h h'
+Pauses k h h' false = (h.jobs k ≡ None) × IsSame h h'
+
+-- a paused job that is to go on from a second, or from its position, if that is later: a second that its zone holds
+abbrev pub IsToResume : {J : Type 0} → ℤ → Standing J → Type 0
+IsToResume from s = (is_paused s.stop ≡ true) × (s.position.zone.holds (int_max s.position.instant from) ≡ true)
+
+-- the pause of the job k ends, and its position moves on to the second, if that is later; or it isn't paused, there is no such job, or its
+-- zone doesn't hold the second
+abbrev pub Resumes : {J : Type 0} → ℕ → ℤ → Held J → Held J → Resume → Type 0
+Resumes k from h h' (resumes.GoesOn b) = IsSomeAnd (h.jobs k) (λ s. IsToResume from s × MovesTo h k (int_max s.position.instant from) h')
+Resumes k from h h' resumes.NotPaused = IsSomeAnd (h.jobs k) (λ s. is_paused s.stop ≡ false) × IsSame h h'
+Resumes k from h h' resumes.NoJob = (h.jobs k ≡ None) × IsSame h h'
+Resumes k from h h' resumes.NotHeld =
+    IsSomeAnd (h.jobs k) (λ s. (is_paused s.stop ≡ true) × (s.position.zone.holds (int_max s.position.instant from) ≡ false)) × IsSame h h'
+
+-- one that goes on tells whether the job k is stopped
+abbrev pub ResumeTellsStop : {J : Type 0} → ℕ → Held J → Resume → Type 0
+ResumeTellsStop k h (resumes.GoesOn is_stopped) = TellsStop h k is_stopped
+ResumeTellsStop k h resumes.NotPaused = ⊤
+ResumeTellsStop k h resumes.NoJob = ⊤
+ResumeTellsStop k h resumes.NotHeld = ⊤
 
 -- whose run is given, and when
 abbrev pub turn_of : Due → Turn
@@ -189,14 +263,12 @@ pub record IsAdded {J : Type 0} (job : J) (position : Moment) (h h' : Held J) (i
 abbrev pub IsHandedBack : {J T : Type 0} → J → T → NotAdded J T → Type 0
 IsHandedBack job position refused = (refused.job ≡ job) × (refused.position ≡ position)
 
--- why a job isn't added: for lack of memory, and then an id is left and the whole second of the position is held; since no id is left; or
--- since that second isn't held
-abbrev pub IsAddRefused : {J : Type 0} → Moment → Held J → AddError → Type 0
-IsAddRefused position h OutOfMemory = ¬ (h.next_id ≡ 2 ^ 64 - 1) × (position.zone.holds position.instant ≡ true)
-IsAddRefused position h NoIdLeft = h.next_id ≡ 2 ^ 64 - 1
-IsAddRefused position h PositionNotHeld = position.zone.holds position.instant ≡ false
-IsAddRefused position h SecondBeforeNotHeld = ⊥
-IsAddRefused position h errors.NoJob = ⊥
+-- why a job isn't added: for lack of memory, and then an id is left; or since no id is left
+abbrev pub IsAddRefused : {J : Type 0} → Held J → AddError → Type 0
+IsAddRefused h OutOfMemory = ¬ (h.next_id ≡ 2 ^ 64 - 1)
+IsAddRefused h NoIdLeft = h.next_id ≡ 2 ^ 64 - 1
+IsAddRefused h SecondBeforeNotHeld = ⊥
+IsAddRefused h errors.NoJob = ⊥
 
 -- the second before that of a moment
 abbrev pub second_before : Moment → Moment
@@ -211,7 +283,6 @@ HasNoneBefore m = (m.zone.holds (m.instant -ℤ pos 1) ≡ false) ⊎ (m.instant
 abbrev pub IsAddFromRefused : {J : Type 0} → Moment → Held J → AddError → Type 0
 IsAddFromRefused start h OutOfMemory = ¬ (h.next_id ≡ 2 ^ 64 - 1) × (start.zone.holds (start.instant -ℤ pos 1) ≡ true)
 IsAddFromRefused start h NoIdLeft = h.next_id ≡ 2 ^ 64 - 1
-IsAddFromRefused start h PositionNotHeld = ⊥
 IsAddFromRefused start h SecondBeforeNotHeld = HasNoneBefore start
 IsAddFromRefused start h errors.NoJob = ⊥
 
@@ -230,14 +301,16 @@ pub record IsPut {J : Type 0} (job : J) (position : Moment) (h : Held J) (k : �
 abbrev pub Replaces : {J T : Type 0} → (T → Moment) → ℕ → J → Moment → Held J → Held J → J × T → Type 0
 Replaces moment k job position h h' given = IsGivenBack moment (h.jobs k) (Some given) × IsPut job position h k h'
 
--- why no job is put in the place of the one of the id k: there is none; or there is one, and memory is lacking while the whole second of
--- the position is held, or that second isn't held
-abbrev pub IsPutRefused : {J : Type 0} → ℕ → Moment → Held J → AddError → Type 0
-IsPutRefused k position h OutOfMemory = IsSome (h.jobs k) × (position.zone.holds position.instant ≡ true)
-IsPutRefused k position h NoIdLeft = ⊥
-IsPutRefused k position h PositionNotHeld = IsSome (h.jobs k) × (position.zone.holds position.instant ≡ false)
-IsPutRefused k position h SecondBeforeNotHeld = ⊥
-IsPutRefused k position h errors.NoJob = h.jobs k ≡ None
+-- the same, where the other job stands where the first one stood
+abbrev pub ReplacesJob : {J T : Type 0} → (T → Moment) → ℕ → J → Held J → Held J → J × T → Type 0
+ReplacesJob moment k job h h' given = IsGivenBack moment (h.jobs k) (Some given) × IsSomeAnd (h.jobs k) (λ s. IsPut job s.position h k h')
+
+-- why no job is put in the place of the one of the id k: there is none; or there is one, and memory is lacking
+abbrev pub IsPutRefused : {J : Type 0} → ℕ → Held J → AddError → Type 0
+IsPutRefused k h OutOfMemory = IsSome (h.jobs k)
+IsPutRefused k h NoIdLeft = ⊥
+IsPutRefused k h SecondBeforeNotHeld = ⊥
+IsPutRefused k h errors.NoJob = h.jobs k ≡ None
 
 -- the job of the id is gone, if there was one, and the others stay
 pub record IsRemoved {J : Type 0} (id : ℕ) (h h' : Held J) : Type 0 where

@@ -1,27 +1,34 @@
 -- Calls of a scheduler one after the other: what they give of a job, and what they pass over. Source: this crate's documentation.
-use Rattle.std.specs.Prelude.{◌≡◌, ◌⊎◌, ⊤, ◌<◌, ℕ, nat_eq, cond, ℤ, ◌<ℤ◌, ◌≤ℤ◌, Bool, List, [], ◌∷◌, ◌++◌, Option, Some, None, IfSome, IsSome}
+use Rattle.std.specs.Prelude.{◌≡◌, ◌⊎◌, ⊤, ◌<◌, ℕ, nat_eq, cond, ℤ, ◌<ℤ◌, ◌≤ℤ◌, Bool, true, false, List, [], ◌∷◌, ◌++◌, Option, Some, None, IfSome, IsSome}
+use Rattle.std.specs.Int.{int_max}
 use Rattle.std.specs.List.{All, AllPairs, Contains}
 use Rattle.croner_base.specs.Calm.{IsCalm}
 use Rattle.croner_base.specs.Zone.{Zone, Moment}
 use Rattle.croner.specs.search.Premises.{IsSearchable}
 use Rattle.croner_scheduler.specs.declared.latest.Latest.{Latest}
 use Rattle.croner_scheduler.specs.declared.latest.Latest.TheVariants as latest
+use Rattle.croner_scheduler.specs.declared.resume.Resume.{Resume}
+use Rattle.croner_scheduler.specs.declared.resume.Resume.TheVariants.{GoesOn}
 use Rattle.croner_scheduler.specs.declared.skip.Skip.{Skip}
 use Rattle.croner_scheduler.specs.declared.skip.Skip.TheVariants.{Moved}
 use Rattle.croner_scheduler.specs.declared.turns.Turn.{Turn}
-use Rattle.croner_scheduler.specs.Calls.{IsSame, IsWakeUp, TakesDue, TakesLatest, SkipsTo, IsAdded, IsPut, IsRemoved, AsksAgain}
-use Rattle.croner_scheduler.specs.Kept.{StopsAt}
+use Rattle.croner_scheduler.specs.Calls.{IsSame, IsWakeUp, TakesDue, TakesLatest, SkipsTo, SkipsEach, IsAdded, IsPut, IsRemoved, AsksAgain, Pauses, Resumes}
+use Rattle.croner_scheduler.specs.Kept.{CanBeAt, is_paused}
 use Rattle.croner_scheduler.specs.Standing.{Standing, Held, Left, Seen}
 
--- a call, what it was told and what it answered; an add or a replace that was refused, and any call that lacked memory, change nothing
+-- a call, what it was told and what it answered; an add or a replace that was refused, and any call that lacked memory, change nothing. A
+-- skip of all has, in place of its answer, the ids of the jobs that it moved: each that was behind, or where it lacked memory some of them
 pub data Call (J : Type 0) : Type 0 where
   TakeDue : ℤ → Option Turn → Call J
   TakeLatestDue : ℕ → ℤ → Latest → Call J
   SkipTo : ℕ → ℤ → Skip → Call J
+  SkipAllTo : ℤ → (ℕ → Bool) → Call J
   Add : J → Moment → ℕ → Call J
   Replace : ℕ → J → Moment → Call J
   Remove : ℕ → Call J
   AskAgain : ℕ → Bool → Call J
+  Pause : ℕ → Bool → Call J
+  ResumeFrom : ℕ → ℤ → Resume → Call J
   ChangeNothing : Call J
 
 -- what a scheduler holds before a call and after it
@@ -29,10 +36,13 @@ abbrev pub Makes : {J : Type 0} → (J → Zone → ℤ → Type 0) → Call J �
 Makes runs (TakeDue now due) h h' = TakesDue runs now h h' due
 Makes runs (TakeLatestDue id now answer) h h' = TakesLatest runs id now h h' answer
 Makes runs (SkipTo id now skip) h h' = SkipsTo id now h h' skip
+Makes runs (SkipAllTo now moves) h h' = SkipsEach moves now h h'
 Makes runs (Add job position id) h h' = IsAdded job position h h' id
 Makes runs (Replace id job position) h h' = IsSome (h.jobs id) × IsPut job position h id h'
 Makes runs (Remove id) h h' = IsRemoved id h h'
 Makes runs (AskAgain id again) h h' = AsksAgain id h h' again
+Makes runs (Pause id is_there) h h' = Pauses id h h' is_there
+Makes runs (ResumeFrom id from resume) h h' = Resumes id from h h' resume
 Makes runs ChangeNothing h h' = IsSame h h'
 
 -- before the calls of a list, and after the last of them
@@ -64,6 +74,8 @@ abbrev pub place_after : {J : Type 0} → ℕ → ℤ → Call J → ℤ
 place_after k p (TakeDue now (Some due)) = cond (nat_eq k due.id) due.second p
 place_after k p (TakeLatestDue id now (latest.Given i b)) = cond (nat_eq k id) i p
 place_after k p (SkipTo id now (Moved b)) = cond (nat_eq k id) now p
+place_after k p (SkipAllTo now moves) = cond (moves k) now p
+place_after k p (ResumeFrom id from (GoesOn b)) = cond (nat_eq k id) (int_max p from) p
 place_after k p call = p
 
 -- and after a list of calls
@@ -72,10 +84,12 @@ place_after_all k p [] = p
 place_after_all k p (call ∷ calls) = place_after_all k (place_after k p call) calls
 
 -- the call passes over j, where it stood at p: j lies after p, and before the last due run that it gives, or no later than the second to which it
--- skips
+-- skips, or from which it is resumed
 abbrev pub PassesOver : {J : Type 0} → ℕ → ℤ → Call J → ℤ → Type 0
 PassesOver k p (TakeLatestDue id now (latest.Given i b)) j = (id ≡ k) × (p <ℤ j) × (j <ℤ i)
 PassesOver k p (SkipTo id now (Moved b)) j = (id ≡ k) × (p <ℤ j) × (j ≤ℤ now)
+PassesOver k p (SkipAllTo now moves) j = (moves k ≡ true) × (p <ℤ j) × (j ≤ℤ now)
+PassesOver k p (ResumeFrom id from (GoesOn b)) j = (id ≡ k) × (p <ℤ j) × (j ≤ℤ from)
 PassesOver k p call j = ⊥
 
 -- some call of a list does
@@ -90,7 +104,7 @@ pub record IsGivenBetween {J : Type 0} (runs : J → Zone → ℤ → Type 0) (s
   pub zone_is : s'.position.zone ≡ s.position.zone
   pub on : s.position.instant ≤ℤ s'.position.instant
   -- where a stop can be only for a reason that holds at the first position, it can be so at the last
-  pub stop : IfSome s.stop (StopsAt s.position) → IfSome s'.stop (StopsAt s'.position)
+  pub stop : IfSome s.stop (CanBeAt s.position) → IfSome s'.stop (CanBeAt s'.position)
   -- the items are in order, each once, after its first position and up to its last
   pub ordered : AllPairs (λ i j. i <ℤ j) items
   pub between : All (λ i. (s.position.instant <ℤ i) × (i ≤ℤ s'.position.instant)) items
@@ -121,9 +135,9 @@ pub record KeepsNoneBack {J : Type 0} (runs : J → Zone → ℤ → Type 0) (k 
   pub wake_up : (second : ℤ) → IsWakeUp runs h' (Some second) → AreDoneWith runs k s calls (λ i. i <ℤ second)
   pub over : IsWakeUp runs h' None → AreDoneWith runs k s calls (λ i. ⊤)
 
--- no search from where it stands is refused, and if it was stopped before, that was for a reason
+-- it isn't paused, no search from where it stands is refused, and if it was stopped before, that was for a reason
 abbrev pub CannotStop : {J : Type 0} → Standing J → Standing J → Type 0
-CannotStop s s' = IfSome s.stop (StopsAt s.position) × IsSearchable s'.position
+CannotStop s s' = IfSome s.stop (CanBeAt s.position) × IsSearchable s'.position × (is_paused s'.stop ≡ false)
 
 -- whatever calls are made, none is kept back of a job in a calm zone that is neither removed nor replaced, and isn't stopped after them or
 -- can't be

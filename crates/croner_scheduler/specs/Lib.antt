@@ -9,4 +9,5 @@ pub mod Calls
 pub mod History
 pub mod Lives
 pub mod Messages
+pub mod Waits
 pub mod Private

@@ -16,11 +16,10 @@ pub enum AddError {
     OutOfMemory,
     /// No id is left: the next one would be 18446744073709551615 (2^64 - 1), which is never given.
     NoIdLeft,
-    /// The job's zone doesn't hold the whole second of the position.
-    PositionNotHeld,
     /// The job's zone doesn't hold the second before the start (only from [`Scheduler::add_from`](crate::Scheduler::add_from)).
     SecondBeforeNotHeld,
-    /// No job has the id (only from [`Scheduler::replace`](crate::Scheduler::replace)).
+    /// No job has the id (only from [`Scheduler::replace`](crate::Scheduler::replace) and
+    /// [`Scheduler::replace_job`](crate::Scheduler::replace_job)).
     NoJob,
 }
 
@@ -55,6 +54,15 @@ pub struct NotAdded<J, T> {
     pub error: AddError,
 }
 
+/// A job that wasn't put in another's place, handed back unchanged ([`Scheduler::replace_job`](crate::Scheduler::replace_job)).
+#[derive(Drop)]
+pub struct NotReplaced<J> {
+    /// The job.
+    pub job: J,
+    /// The reason.
+    pub error: AddError,
+}
+
 /// A sentence for a person.
 impl fmt::Display for AddError {
     ghost use Rattle.std.specs.Prelude.{Some};
@@ -66,7 +74,6 @@ impl fmt::Display for AddError {
         match self {
             AddError::OutOfMemory => write!(f, "Out of memory."),
             AddError::NoIdLeft => write!(f, "No id is left for another job."),
-            AddError::PositionNotHeld => write!(f, "The second of the position isn't held."),
             AddError::SecondBeforeNotHeld => write!(f, "The second before the start isn't held."),
             AddError::NoJob => write!(f, "No job has the id."),
         }
@@ -99,6 +106,23 @@ pub(crate) fn not_added_for_memory<J, T: Drop>(
     not_added(job, position, AddError::OutOfMemory)
 }
 
+// A job that isn't put in another's place.
+pub(crate) fn not_replaced<J>(job: J, error: AddError) -> NotReplaced<J>
+    ensures handed_back { result.job ≡ job }
+    ensures error { result.error ≡ error }
+{
+    NotReplaced { job, error }
+}
+
+// A job that isn't put in another's place for lack of memory.
+pub(crate) fn not_replaced_for_memory<J, T: Drop>(waiting: Waiting<J, T>) -> NotReplaced<J>
+    ensures handed_back { result.job ≡ waiting.job }
+    ensures error { result.error ≡ OutOfMemory }
+{
+    let (job, _) = waiting.into_parts();
+    not_replaced(job, AddError::OutOfMemory)
+}
+
 /// The sentence of its error.
 impl<J, T> fmt::Display for NotAdded<J, T> {
     ghost use Rattle.std.specs.Prelude.{Some};
@@ -127,6 +151,38 @@ impl<J: Drop, T: Clocked> From<NotAdded<J, T>> for AddError {
     ghost from_gives = { λ refused e. e ≡ refused.error };
 
     fn from(refused: NotAdded<J, T>) -> AddError {
+        refused.error
+    }
+}
+
+/// The sentence of its error.
+impl<J> fmt::Display for NotReplaced<J> {
+    ghost use Rattle.std.specs.Prelude.{Some};
+    ghost use Rattle.croner_scheduler.specs.Messages.{text_of};
+
+    ghost output = { λ e. Some (text_of e.error) };
+
+    fn fmt<W: fmt::Write>(&self, f: &mut fmt::Formatter<W>) -> fmt::Result {
+        write!(f, "{}", self.error)
+    }
+}
+
+/// That of its error.
+impl<J> fmt::Debug for NotReplaced<J> {
+    fn fmt<W: fmt::Write>(&self, f: &mut fmt::Formatter<W>) -> fmt::Result {
+        write!(f, "{:?}", self.error)
+    }
+}
+
+impl<J: Drop> Error for NotReplaced<J> {}
+
+/// Why it wasn't put there.
+impl<J: Drop> From<NotReplaced<J>> for AddError {
+    ghost use Rattle.std.specs.Prelude.{◌≡◌};
+
+    ghost from_gives = { λ refused e. e ≡ refused.error };
+
+    fn from(refused: NotReplaced<J>) -> AddError {
         refused.error
     }
 }

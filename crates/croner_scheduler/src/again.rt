@@ -7,6 +7,6 @@ pub enum Again {
     GoesOn,
     /// It was stopped and still is, maybe for another reason.
     StillStopped,
-    /// No stopped job has the id.
+    /// No job that a search stopped has the id: there is no such job, or it goes on, or it is paused.
     NotStopped,
 }

@@ -1,5 +1,5 @@
 //! The ids of the places.
-ghost use Rattle.std.specs.Prelude.{◌≡◌, ◌≤◌, ◌<◌, ◌+◌, ◌-◌, ◌∷◌, ◌++◌, ◌^◌, [], max, length, vec_len, vec_capacity, slice_index_or, IfOk, IfSome, IfNone, OnOk, OnErr, false};
+ghost use Rattle.std.specs.Prelude.{◌≡◌, ℕ, ◌≤◌, ◌<◌, ◌+◌, ◌-◌, ◌∷◌, ◌++◌, ◌^◌, [], max, length, vec_len, vec_capacity, slice_index_or, IfOk, IfSome, IfNone, OnOk, OnErr, false};
 ghost use Rattle.std.specs.BTreeMap.{is_at};
 ghost use Rattle.std.specs.List.{AllByRecursion};
 ghost use Rattle.std.specs.List.Sorted.{IsStrictlySortedBy};
@@ -11,7 +11,7 @@ ghost use Rattle.croner_scheduler.specs.Room.{row_room};
 use crate::room::{room_in, take_room};
 use std::alloc::{AllocError, Global};
 use std::marker::Model;
-use std::slice;
+use std::{slice, vec};
 
 // Ids that rise, and the next one. As long as no place was taken out they follow one another up to the next one, and the first stands for
 // them all; from then on each is listed.
@@ -70,6 +70,21 @@ impl Ids {
         }
     }
 
+    // The lowest id that isn't below another.
+    pub(crate) fn first_from(&self, id: u64) -> Option<u64>
+        ensures from { IfSome result (λ k. IsStrictlySortedBy nat_cmp self.now.items → id ≤ k) }
+        ensures there { IfSome result (λ k. (place : ℕ) × (place < length self.now.items) × (slice_index_or self.now.items place 0 ≡ k)) }
+        ensures between { IfSome result (λ k. IsStrictlySortedBy nat_cmp self.now.items → (other : ℕ) → id ≤ other → other < k
+            → AllByRecursion (λ item. is_at (nat_cmp other) item ≡ false) self.now.items) }
+        ensures none { IfNone result (IsStrictlySortedBy nat_cmp self.now.items → (other : ℕ) → id ≤ other
+            → AllByRecursion (λ item. is_at (nat_cmp other) item ≡ false) self.now.items) }
+    {
+        match &self.listed {
+            Some(ids) => first_among(ids, id),
+            None => first_following(self.first, self.next, id),
+        }
+    }
+
     // The ids.
     pub(crate) fn iter(&self) -> IdsIter<'_>
         ensures { result ≡ self.now.items }
@@ -78,6 +93,23 @@ impl Ids {
             first: self.first,
             next: self.next,
             listed: self.listed.as_ref().map(|ids| ids.iter()),
+        }
+    }
+
+    // The ids, handed over.
+    pub(crate) fn into_iter(self) -> IdsIntoIter
+        ensures { result ≡ self.items }
+    {
+        let Ids {
+            alloc: _,
+            first,
+            next,
+            listed,
+        } = self;
+        IdsIntoIter {
+            first,
+            next,
+            listed: listed.map(|ids| ids.into_iter()),
         }
     }
 
@@ -171,6 +203,33 @@ fn place_between(first: u64, next: u64, id: u64) -> Option<usize>
     }
 }
 
+// The lowest id that isn't below another, of those from the first one up to the next.
+fn first_following(first: u64, next: u64, id: u64) -> Option<u64>
+    requires { first ≤ next }
+    ensures from { IfSome result (λ k. id ≤ k) }
+    ensures there { IfSome result (λ k. (place : ℕ) × (place < length (ids_from first (next - first))) × (slice_index_or (ids_from first (next - first)) place 0 ≡ k)) }
+    ensures between { IfSome result (λ k. (other : ℕ) → id ≤ other → other < k
+        → AllByRecursion (λ item. is_at (nat_cmp other) item ≡ false) (ids_from first (next - first))) }
+    ensures none { IfNone result ((other : ℕ) → id ≤ other → AllByRecursion (λ item. is_at (nat_cmp other) item ≡ false) (ids_from first (next - first))) }
+{
+    let lowest = id.max(first);
+    if lowest < next { Some(lowest) } else { None }
+}
+
+// The same, of those that are listed.
+fn first_among(ids: &[u64], id: u64) -> Option<u64>
+    ensures from { IfSome result (λ k. IsStrictlySortedBy nat_cmp ids.now → id ≤ k) }
+    ensures there { IfSome result (λ k. (place : ℕ) × (place < length ids.now) × (slice_index_or ids.now place 0 ≡ k)) }
+    ensures between { IfSome result (λ k. IsStrictlySortedBy nat_cmp ids.now → (other : ℕ) → id ≤ other → other < k
+        → AllByRecursion (λ item. is_at (nat_cmp other) item ≡ false) ids.now) }
+    ensures none { IfNone result (IsStrictlySortedBy nat_cmp ids.now → (other : ℕ) → id ≤ other → AllByRecursion (λ item. is_at (nat_cmp other) item ≡ false) ids.now) }
+{
+    match ids.binary_search(&id) {
+        Ok(_) => Some(id),
+        Err(place) => ids.get(place).copied(),
+    }
+}
+
 // The place of an id, of those that are listed: its distance from the first id, where no place was taken out between the two.
 fn place_among(ids: &[u64], id: u64) -> Option<usize>
     ensures found { IfSome result (λ place. (place < length ids.now) × (slice_index_or ids.now place 0 ≡ id)) }
@@ -227,6 +286,37 @@ impl<'a> IdsIter<'a> {
     {
         match &mut self.listed {
             Some(ids) => ids.next().copied(),
+            None => first_between(&mut self.first, self.next),
+        }
+    }
+}
+
+// The ids that are left, handed over.
+#[derive(Drop)]
+pub(crate) struct IdsIntoIter {
+    first: u64,
+    next: u64,
+    listed: Option<vec::IntoIter<u64, Global>>,
+}
+
+impl Model for IdsIntoIter {
+    ghost use Rattle.std.specs.Prelude.{List, ℕ, ◌≤◌};
+    ghost use Rattle.croner_scheduler.specs.Private.Places.{ids_to_give};
+
+    ghost Value = { List ℕ };
+
+    ghost view = { λ a. ids_to_give a.first a.next a.listed };
+
+    ghost invariant = { λ a. a.first ≤ a.next };
+}
+
+impl IdsIntoIter {
+    // The next id that is left.
+    pub(crate) fn next(&mut self) -> Option<u64>
+        ensures { TakesFirst (λ id. id) self.old result self.new }
+    {
+        match &mut self.listed {
+            Some(ids) => ids.next(),
             None => first_between(&mut self.first, self.next),
         }
     }

@@ -1,16 +1,18 @@
 //! The jobs by their ids.
-ghost use Rattle.std.specs.Prelude.{◌≡◌, ◌⊎◌, ◌≤◌, ◌<◌, ◌+◌, ◌-◌, ◌^◌, min, max, [], ℕ, length, is_some, option_map, vec_len, vec_capacity, IfOk, IfErr, OnOk, OnErr, Some, None, cond, if◌then◌else◌};
+ghost use Rattle.std.specs.Prelude.{◌≡◌, ◌⊎◌, ◌≤◌, ◌<◌, ◌+◌, ◌-◌, ◌^◌, min, max, map, [], ℕ, length, is_some, option_map, vec_len, vec_capacity, IfOk, IfErr, IfSome, IfNone, OnOk, OnErr, Some, None, cond, if◌then◌else◌};
 ghost use Rattle.std.specs.BTreeMap.{is_at};
 ghost use Rattle.std.specs.List.Sorted.{IsStrictlySortedBy};
 ghost use Rattle.std.specs.Map.{keys_of};
 ghost use Rattle.std.specs.Option.{option_copied};
 ghost use Rattle.std.specs.Ordering.{nat_cmp};
-ghost use Rattle.croner_scheduler.specs.Ids.{job_of};
+ghost use Rattle.croner_scheduler.specs.Ids.{job_of, parts_entry};
 ghost use Rattle.croner_scheduler.specs.Private.Places.{entries_in, AreInRow, PutsInFront};
-ghost use Rattle.croner_scheduler.specs.Private.Steps.{jobs_with, job_at_position, job_standing_at, job_with_next, is_awaited_at, ArePartsOf};
+ghost use Rattle.croner_scheduler.specs.Private.Steps.{jobs_with, job_at_position, job_standing_at, job_with_next, is_awaited_at, stop_len, ArePartsOf};
 ghost use Rattle.croner_scheduler.specs.Room.{row_room, FewGone};
+ghost use Rattle.croner_scheduler.specs.Stops.{stops_in};
 
 use crate::ids::Ids;
+use crate::into_jobs::IntoJobs;
 use crate::iter::Iter;
 use crate::room::{has_many_gone, room_in, take_room};
 use crate::turns::Turn;
@@ -27,14 +29,16 @@ pub(crate) struct Jobs<J, T> {
     ids: Ids,
     places: Vec<Option<Waiting<J, T>>>,
     count: usize,
+    stopped: usize,
 }
 
 impl<J, T> Model for Jobs<J, T> {
-    ghost use Rattle.std.specs.Prelude.{min};
+    ghost use Rattle.std.specs.Prelude.{◌≡◌, length, min};
     ghost use Rattle.croner_scheduler.specs.Ids.{ById};
     ghost use Rattle.croner_scheduler.specs.declared.waiting.Waiting.{Waiting};
     ghost use Rattle.croner_scheduler.specs.Private.Places.{entries_in, ArePlaces};
     ghost use Rattle.croner_scheduler.specs.Room.{row_room};
+    ghost use Rattle.croner_scheduler.specs.Stops.{stops_in};
 
     ghost Value = { ById (Waiting J T) };
 
@@ -44,7 +48,7 @@ impl<J, T> Model for Jobs<J, T> {
       room = min a.ids.room (row_room a.places);
     } };
 
-    ghost invariant = { λ a. ArePlaces a.ids.items a.places.items a.count a.ids.next };
+    ghost invariant = { λ a. ArePlaces a.ids.items a.places.items a.count a.ids.next × (a.stopped ≡ length (stops_in (entries_in a.ids.items a.places.items))) };
 }
 
 impl<J, T> Jobs<J, T> {
@@ -57,6 +61,7 @@ impl<J, T> Jobs<J, T> {
             ids: Ids::new(alloc, next_id),
             places: Vec::new(alloc),
             count: 0,
+            stopped: 0,
         }
     }
 
@@ -65,6 +70,22 @@ impl<J, T> Jobs<J, T> {
         ensures { result ≡ length self.now.entries }
     {
         self.count
+    }
+
+    // How many of them are stopped.
+    pub(crate) fn stopped(&self) -> usize
+        ensures { result ≡ length (stops_in self.now.entries) }
+    {
+        self.stopped
+    }
+
+    // The lowest id that has a place and isn't below another. Each job has such an id.
+    pub(crate) fn id_from(&self, id: u64) -> Option<u64>
+        ensures found { IfSome result (λ k. (id ≤ k) × (k < self.now.next_id)) }
+        ensures between { IfSome result (λ k. (other : ℕ) → id ≤ other → other < k → job_of self.now other ≡ None) }
+        ensures none { IfNone result ((other : ℕ) → id ≤ other → job_of self.now other ≡ None) }
+    {
+        self.ids.first_from(id)
     }
 
     // The id of the next job.
@@ -106,6 +127,26 @@ impl<J, T> Jobs<J, T> {
         }
     }
 
+    // The jobs with their ids and positions, handed over.
+    pub(crate) fn into_jobs(self) -> IntoJobs<J, T>
+    where
+        J: Drop,
+        T: Drop,
+        ensures entries { result ≡ map parts_entry self.entries }
+        ensures ordered { IsStrictlySortedBy nat_cmp (keys_of self.entries) }
+    {
+        let Jobs {
+            ids,
+            places,
+            count: _,
+            stopped: _,
+        } = self;
+        IntoJobs {
+            ids: ids.into_iter(),
+            places: places.into_iter(),
+        }
+    }
+
     // Keeps a job under the next id, and returns the id; or gives the job back for lack of memory.
     pub(crate) fn add(&mut self, waiting: Waiting<J, T>) -> Result<u64, Waiting<J, T>>
     where
@@ -125,8 +166,10 @@ impl<J, T> Jobs<J, T> {
         let Ok(()) = make_room(&mut self.ids, &mut self.places, self.count) else {
             return Err(waiting);
         };
+        let place = Some(waiting);
+        self.stopped += stop_len(&place);
         let id = self.ids.push();
-        self.places.push_reserved(Some(waiting));
+        self.places.push_reserved(place);
         self.count += 1;
         Ok(id)
     }
@@ -156,8 +199,10 @@ impl<J, T> Jobs<J, T> {
         ensures jobs { (other : ℕ) → job_of self.new other ≡ cond (is_at (nat_cmp id) other) None (job_of self.old other) }
         ensures count { length self.new.entries + (if is_some result then 1 else 0) ≡ length self.old.entries }
         ensures next_id { self.new.next_id ≡ self.old.next_id }
+        ensures room { self.new.room ≡ self.old.room }
     {
         let place = self.ids.place_of(id)?;
+        self.stopped -= stop_len(&self.places[place]);
         let waiting = self.places[place].take();
         self.count -= usize::from(waiting.is_some());
         waiting
@@ -170,9 +215,12 @@ impl<J, T> Jobs<J, T> {
         ensures jobs { (other : ℕ) → job_of self.new other ≡ jobs_with id (job_at_position position next) other (job_of self.old other) }
         ensures count { length self.new.entries ≡ length self.old.entries }
         ensures next_id { self.new.next_id ≡ self.old.next_id }
+        ensures room { self.new.room ≡ self.old.room }
     {
         if let Some(place) = self.ids.place_of(id) {
+            let others = self.stopped - stop_len(&self.places[place]);
             move_to(&mut self.places[place], position, next);
+            self.stopped = others + stop_len(&self.places[place]);
         }
     }
 
@@ -183,6 +231,7 @@ impl<J, T> Jobs<J, T> {
         ensures jobs { (other : ℕ) → job_of self.new other ≡ jobs_with id (job_standing_at position) other (job_of self.old other) }
         ensures count { length self.new.entries ≡ length self.old.entries }
         ensures next_id { self.new.next_id ≡ self.old.next_id }
+        ensures room { self.new.room ≡ self.old.room }
     {
         if let Some(place) = self.ids.place_of(id) {
             move_before_next(&mut self.places[place], position);
@@ -194,9 +243,12 @@ impl<J, T> Jobs<J, T> {
         ensures jobs { (other : ℕ) → job_of self.new other ≡ jobs_with id (job_with_next next) other (job_of self.old other) }
         ensures count { length self.new.entries ≡ length self.old.entries }
         ensures next_id { self.new.next_id ≡ self.old.next_id }
+        ensures room { self.new.room ≡ self.old.room }
     {
         if let Some(place) = self.ids.place_of(id) {
+            let others = self.stopped - stop_len(&self.places[place]);
             renew(&mut self.places[place], next);
+            self.stopped = others + stop_len(&self.places[place]);
         }
     }
 
@@ -213,11 +265,27 @@ impl<J, T> Jobs<J, T> {
         ensures jobs { (at : ℕ) → job_of self.new at ≡ jobs_with id (λ _. other) at (job_of self.old at) }
         ensures count { length self.new.entries ≡ length self.old.entries }
         ensures next_id { self.new.next_id ≡ self.old.next_id }
+        ensures room { self.new.room ≡ self.old.room }
     {
         match self.ids.place_of(id) {
-            Some(place) => exchange(&mut self.places[place], other),
+            Some(place) => {
+                let others = self.stopped - stop_len(&self.places[place]);
+                let out = exchange(&mut self.places[place], other);
+                self.stopped = others + stop_len(&self.places[place]);
+                out
+            }
             None => Err(other),
         }
+    }
+}
+
+// How many of the job of a place, if it has one, are stopped.
+fn stop_len<J, T>(place: &Option<Waiting<J, T>>) -> usize
+    ensures { result ≡ stop_len place.now }
+{
+    match place {
+        Some(waiting) if waiting.is_stopped() => 1,
+        Some(_) | None => 0,
     }
 }
 

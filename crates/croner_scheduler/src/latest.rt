@@ -1,5 +1,5 @@
 //! The last due run of a job.
-ghost use Rattle.std.specs.Prelude.{◌≡◌, IfOk};
+ghost use Rattle.std.specs.Prelude.{◌≡◌, IfOk, OnErr, IsTrue};
 ghost use Rattle.croner_scheduler.specs.Private.Latest.{last_of_run, last_of_refusal, FitsLast};
 
 use crate::waiting::{Refusal, refusal_of};
@@ -21,7 +21,7 @@ pub enum Latest {
     NothingDue,
     /// No job has the id.
     NoJob,
-    /// The job's zone doesn't hold the second `now`.
+    /// A run is due, but the job's zone doesn't hold the second `now`.
     NotHeld,
     /// The search backward from `now` was refused by its backend.
     Refused(Refusal),
@@ -39,13 +39,14 @@ pub(crate) enum Last<T> {
 }
 
 // The last run of a job up to a moment, where its next run, at that second, lies no later.
-#[tactic(auto, using(crate::proofs::LastRuns::last_refused))]
+#[tactic(auto, using(crate::proofs::LastRuns::last_refused, crate::proofs::LastRuns::lacks_refused))]
 pub(crate) fn last_of<J: Recurring<T>, T: Clocked>(
     job: &J,
     next: i64,
     until: &T,
 ) -> Result<Last<T>, AllocError>
-    ensures { IfOk result (FitsLast (J.runs job.now) T.moment next (T.moment until.now)) }
+    ensures fits { IfOk result (FitsLast (J.runs job.now) T.moment next (T.moment until.now)) }
+    ensures lacks { OnErr result (IsTrue T.can_lack_memory) }
 {
     match job.last_until(until) {
         Ok(found) => Ok(last_of_run(next, until, found)),

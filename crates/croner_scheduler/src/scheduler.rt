@@ -5,19 +5,22 @@ ghost use Rattle.std.specs.BinaryHeap.{heap_items};
 ghost use Rattle.std.specs.Ordering.{nat_cmp};
 ghost use Rattle.croner_scheduler.specs.Ids.{job_of};
 ghost use Rattle.croner_scheduler.specs.Private.Turns.{AreTurnsOf};
-ghost use Rattle.croner_scheduler.specs.Kept.{Fits};
+ghost use Rattle.croner_scheduler.specs.Kept.{Fits, StopsAt, stop_of};
 ghost use Rattle.croner_scheduler.specs.Private.Latest.{CanGive, IsLastGiven};
 ghost use Rattle.croner_scheduler.specs.Private.Steps.{is_awaited_at, CanStand, IsRunOf};
 
-use crate::add::{not_added, not_added_for_memory};
+use crate::add::{not_added, not_added_for_memory, not_replaced, not_replaced_for_memory};
 use crate::iter::Iter;
 use crate::jobs::Jobs;
 use crate::latest::{Last, last_of};
 use crate::turns::{
     Due, Turn, Turns, await_next, due_of, first_turn, make_room, reserve, room, settle,
 };
-use crate::waiting::{Waiting, next_of, second_before};
-use crate::{AddError, Added, Again, Latest, NotAdded, Replaced, Skip, Stops};
+use crate::waiting::{Next, Waiting, next_of, second_before, whole_second};
+use crate::{
+    AddError, Added, Again, IntoJobs, Latest, NotAdded, NotReplaced, Replaced, Resume, Skip, Stop,
+    Stops,
+};
 use croner::{Clocked, Recurring};
 use std::alloc::{AllocError, Global};
 use std::collections::BinaryHeap;
@@ -30,11 +33,12 @@ use std::collections::BinaryHeap;
 /// there.
 ///
 /// In a calm zone ([`CronDateTime`](croner::CronDateTime) says when a zone is calm) the runs of a job after its position are given in
-/// order, each once, up to the end of the searched years. None is left out but those that [`skip_to`](Scheduler::skip_to) or
-/// [`take_latest_due`](Scheduler::take_latest_due) passes over. After [`replace`](Scheduler::replace) they are those of the new job after
-/// its position. `laws` states this for every list of calls. In a zone that isn't calm the run given is the one that the search found,
+/// order, each once, up to the end of the searched years. None is left out but those that [`skip_to`](Scheduler::skip_to),
+/// [`skip_all_to`](Scheduler::skip_all_to), [`resume`](Scheduler::resume) or [`take_latest_due`](Scheduler::take_latest_due) passes over. After
+/// [`replace`](Scheduler::replace) they are those of the new job after its position. `laws` states this for every list of calls. In a zone that isn't calm the run given is the one that the search found,
 /// later than the position. A job in such a zone doesn't affect the others. A job is *stopped* ([`Waiting::stop`]) if its backend refuses
-/// the search, or the search finds a run that isn't later than the position. The call at which that happens says so,
+/// the search, or the search finds a run that isn't later than the position, or while it is paused ([`pause`](Scheduler::pause)). The call
+/// at which a search stops it says so,
 /// [`stopped`](Scheduler::stopped) lists such jobs, and [`ask_again`](Scheduler::ask_again) searches again. A job without a run left in the
 /// searched years stays, and gives nothing.
 ///
@@ -68,11 +72,12 @@ impl<J: Recurring<T>, T: Clocked> Scheduler<J, T> {
     ghost use Rattle.std.specs.BTreeMap.{is_at};
     ghost use Rattle.std.specs.List.Sorted.{IsStrictlySortedBy};
     ghost use Rattle.std.specs.Map.{lookup, keys_of};
-    ghost use Rattle.croner_scheduler.specs.Views.{capacity_of, held_of};
+    ghost use Rattle.croner_scheduler.specs.Room.{CanLack};
+    ghost use Rattle.croner_scheduler.specs.Views.{capacity_of, turn_capacity_of, stop_count_of, held_of, KeepsRoom};
     ghost use Rattle.croner_scheduler.specs.Awaited.{AwaitsFirst, TakesAwaited, WakesFirst, IsSomeDue};
     ghost use Rattle.croner_scheduler.specs.Kept.{standing_of};
     ghost use Rattle.croner_scheduler.specs.declared.add.AddError.TheVariants.{OutOfMemory};
-    ghost use Rattle.croner_scheduler.specs.Calls.{IsSame, IsNearest, IsWakeUp, MovesTo, turn_of, TakesDue, TakesLatest, LatestTellsStop, IsToTake, SkipsTo, SkipTellsStop, IsToMove, AsksAgain, is_asked, AgainTellsStop, TellsStop, IsAdded, IsHandedBack, IsAddRefused, IsAddFromRefused, second_before, IsGivenBack, IsPutRefused, Replaces, IsRemoved};
+    ghost use Rattle.croner_scheduler.specs.Calls.{IsSame, IsNearest, IsWakeUp, MovesTo, turn_of, TakesDue, TakesLatest, LatestTellsStop, IsToTake, SkipsTo, SkipTellsStop, IsToMove, SkipsAll, SkipsBelow, TellsSkipped, is_behind, AsksAgain, is_asked, AgainTellsStop, Pauses, Resumes, ResumeTellsStop, IsToResume, TellsStop, IsAdded, IsHandedBack, IsAddRefused, IsAddFromRefused, second_before, IsGivenBack, IsPutRefused, Replaces, ReplacesJob, IsRemoved};
 
     /// A scheduler without jobs. The first id is 0.
     pub fn new(alloc: Global) -> Scheduler<J, T>
@@ -96,25 +101,30 @@ impl<J: Recurring<T>, T: Clocked> Scheduler<J, T> {
         }
     }
 
-    /// For how many jobs, in all, there is room. Until there are so many, [`add`](Scheduler::add) asks for no memory but what its search takes.
-    /// Calls that remove a job or move it may lower the number: the room of what has gone is used again only where there is no other.
+    /// For how many jobs, in all, there is room. Until there are so many, [`add`](Scheduler::add) lacks no memory but what its search takes.
+    /// Only `remove` lowers the number: the room of a job that has gone is used again where there is no other.
     pub fn capacity(&self) -> usize
         ensures { result ≡ capacity_of self.now }
     {
-        self.jobs.len() + self.jobs.room().min(room(&self.turns))
+        let jobs = self.jobs.len();
+        jobs + self.jobs.room().min(room(&self.turns, jobs))
     }
 
     /// Takes room for so many more jobs, for a program that knows how many it will add: their places then take no memory that isn't needed,
     /// and none when they are added. Without it room for a sixteenth more is taken at a time. Nothing else changes. After lack of memory
     /// there is as much room as before, or some more. Where there is room for more than so many, memory isn't lacking.
+    ///
+    /// After it no call lacks memory while there are at most so many more jobs, if the positions are `DateTime`, `Zoned` or `TableTime`, whose
+    /// searches take none. Only `add` and `add_from` may lack it again once a job was removed.
     pub fn reserve(&mut self, additional: usize) -> Result<(), AllocError>
         ensures same { IsSame (held_of T.moment self.old) (held_of T.moment self.new) }
-        ensures no_less { capacity_of self.old ≤ capacity_of self.new }
+        ensures no_less { KeepsRoom self.old self.new }
         ensures taken { OnOk result ((held_of T.moment self.new).count + additional ≤ capacity_of self.new) }
+        ensures turns { OnOk result ((held_of T.moment self.new).count + additional < turn_capacity_of self.new) }
         ensures full { OnErr result (capacity_of self.old ≤ (held_of T.moment self.old).count + additional) }
     {
         self.jobs.reserve(additional)?;
-        reserve(&mut self.turns, additional)
+        reserve(&mut self.turns, self.jobs.len().saturating_add(additional))
     }
 
     /// How many jobs there are, including those that are stopped or have no run left.
@@ -164,14 +174,18 @@ impl<J: Recurring<T>, T: Clocked> Scheduler<J, T> {
     /// nothing is due. Of several runs at one instant that of the lowest id comes first.
     ///
     /// The call first searches for the run after it. Where memory is lacking for that search or for its result, the call fails and nothing
-    /// has changed: the run is still due. Where the backend refuses that search, or it finds a run that isn't later, the due run is given
+    /// has changed: the run is still due, and holds up those after it. Where the backend refuses that search, or it finds a run that isn't later, the due run is given
     /// and its job is stopped. [`Due::is_stopped`] says so, once; later calls are not affected.
+    ///
+    /// A `now` that is too late moves positions for good: what was given doesn't come again, even if the clock was wrong.
     pub fn take_due(&mut self, now: i64) -> Result<Option<Due>, AllocError>
         ensures taken { IfOk result (λ due. TakesDue J.runs now (held_of T.moment self.old) (held_of T.moment self.new) (option_map turn_of due)) }
         ensures awaited { IfOk result (λ due. TakesAwaited (held_of T.moment self.old) now (option_map turn_of due)) }
         ensures told { IfOk result (λ due. IfSome due (λ d. TellsStop (held_of T.moment self.new) d.id d.is_stopped)) }
         ensures refused { OnErr result (IsSame (held_of T.moment self.old) (held_of T.moment self.new)) }
         ensures due { OnErr result (IsSomeDue (held_of T.moment self.old) now) }
+        ensures full { OnErr result (CanLack T.can_lack_memory (turn_capacity_of self.old) (held_of T.moment self.old).count) }
+        ensures no_less { KeepsRoom self.old self.new }
     {
         match self.nearest_turn() {
             Some(turn) => self.give_by(turn, now),
@@ -190,24 +204,23 @@ impl<J: Recurring<T>, T: Clocked> Scheduler<J, T> {
         ensures added { IfOk result (λ added. IsAdded job (T.moment position) (held_of T.moment self.old) (held_of T.moment self.new) added.id) }
         ensures told { IfOk result (λ added. TellsStop (held_of T.moment self.new) added.id added.is_stopped) }
         ensures held { OnOk result ((T.moment position).zone.holds (T.moment position).instant ≡ true) }
-        ensures refused { IfErr result (λ e. IsAddRefused (T.moment position) (held_of T.moment self.old) e.error) }
+        ensures refused { IfErr result (λ e. IsAddRefused (held_of T.moment self.old) e.error) }
         ensures handed_back { IfErr result (IsHandedBack job position) }
         ensures same { OnErr result (IsSame (held_of T.moment self.old) (held_of T.moment self.new)) }
-        ensures no_less { capacity_of self.old ≤ capacity_of self.new }
+        ensures full { IfErr result (λ e. e.error ≡ OutOfMemory → CanLack T.can_lack_memory (capacity_of self.old) (held_of T.moment self.old).count) }
+        ensures no_less { KeepsRoom self.old self.new }
     {
         if self.has_no_id_left() {
             return Err(not_added(job, position, AddError::NoIdLeft));
         }
-        match position.at_second(position.second()) {
-            Some(whole) => self.add_at(job, position, whole),
-            None => Err(not_added(job, position, AddError::PositionNotHeld)),
-        }
+        let whole = whole_second(&position);
+        self.add_at(job, position, whole)
     }
 
     /// Adds a job as [`add`](Scheduler::add) does, but its runs from the start's whole second on will be given, that second included, also
     /// a run that a gap of the clock carries there. So its position is the second before. A fraction of a second is dropped.
     ///
-    /// An error changes nothing, and hands the job and the start back; it is never `PositionNotHeld` or `NoJob`.
+    /// An error changes nothing, and hands the job and the start back; it is never `NoJob`.
     pub fn add_from(&mut self, job: J, start: T) -> Result<Added, NotAdded<J, T>>
     where
         J: Drop,
@@ -217,7 +230,8 @@ impl<J: Recurring<T>, T: Clocked> Scheduler<J, T> {
         ensures refused { IfErr result (λ e. IsAddFromRefused (T.moment start) (held_of T.moment self.old) e.error) }
         ensures handed_back { IfErr result (IsHandedBack job start) }
         ensures same { OnErr result (IsSame (held_of T.moment self.old) (held_of T.moment self.new)) }
-        ensures no_less { capacity_of self.old ≤ capacity_of self.new }
+        ensures full { IfErr result (λ e. e.error ≡ OutOfMemory → CanLack T.can_lack_memory (capacity_of self.old) (held_of T.moment self.old).count) }
+        ensures no_less { KeepsRoom self.old self.new }
     {
         if self.has_no_id_left() {
             return Err(not_added(job, start, AddError::NoIdLeft));
@@ -244,16 +258,46 @@ impl<J: Recurring<T>, T: Clocked> Scheduler<J, T> {
         ensures replaced { IfOk result (λ out. Replaces T.moment id job (T.moment position) (held_of T.moment self.old) (held_of T.moment self.new) (out.job, out.position)) }
         ensures told { IfOk result (λ out. TellsStop (held_of T.moment self.new) id out.is_stopped) }
         ensures held { OnOk result ((T.moment position).zone.holds (T.moment position).instant ≡ true) }
-        ensures refused { IfErr result (λ e. IsPutRefused id (T.moment position) (held_of T.moment self.old) e.error) }
+        ensures refused { IfErr result (λ e. IsPutRefused id (held_of T.moment self.old) e.error) }
         ensures handed_back { IfErr result (IsHandedBack job position) }
         ensures same { OnErr result (IsSame (held_of T.moment self.old) (held_of T.moment self.new)) }
+        ensures full { IfErr result (λ e. e.error ≡ OutOfMemory → CanLack T.can_lack_memory (turn_capacity_of self.old) (held_of T.moment self.old).count) }
+        ensures no_less { KeepsRoom self.old self.new }
     {
         if self.get(id).is_none() {
             return Err(not_added(job, position, AddError::NoJob));
         }
-        match position.at_second(position.second()) {
-            Some(whole) => self.replace_at(id, job, position, whole),
-            None => Err(not_added(job, position, AddError::PositionNotHeld)),
+        let whole = whole_second(&position);
+        self.replace_at(id, job, position, whole)
+    }
+
+    /// Puts a job in the place of another, under that one's id and at its position, and returns the other with its position. The new job's
+    /// runs after that position will be given: of `0 10 * * *` in place of a job whose position is last night, today's at 10:00 is due
+    /// from then on, also where it is noon already. Where that isn't wanted, [`replace`](Scheduler::replace) takes a position of its own.
+    ///
+    /// A job whose search its backend refuses is put there, but stopped ([`Replaced::is_stopped`]). An error changes nothing, and hands
+    /// the job back; it is never `NoIdLeft` or `SecondBeforeNotHeld`.
+    pub fn replace_job(&mut self, id: u64, job: J) -> Result<Replaced<J, T>, NotReplaced<J>>
+    where
+        J: Drop,
+        ensures replaced { IfOk result (λ out. ReplacesJob T.moment id job (held_of T.moment self.old) (held_of T.moment self.new) (out.job, out.position)) }
+        ensures told { IfOk result (λ out. TellsStop (held_of T.moment self.new) id out.is_stopped) }
+        ensures refused { IfErr result (λ e. IsPutRefused id (held_of T.moment self.old) e.error) }
+        ensures handed_back { IfErr result (λ e. e.job ≡ job) }
+        ensures same { OnErr result (IsSame (held_of T.moment self.old) (held_of T.moment self.new)) }
+        ensures full { IfErr result (λ e. e.error ≡ OutOfMemory → CanLack T.can_lack_memory (turn_capacity_of self.old) (held_of T.moment self.old).count) }
+        ensures no_less { KeepsRoom self.old self.new }
+    {
+        let Some(waiting) = self.jobs.get(id) else {
+            return Err(not_replaced(job, AddError::NoJob));
+        };
+        let position = whole_second(&waiting.position);
+        match Waiting::new(job, position) {
+            Ok(other) => match self.put(id, other) {
+                Ok(replaced) => Ok(replaced),
+                Err(other) => Err(not_replaced_for_memory(other)),
+            },
+            Err(job) => Err(not_replaced(job, AddError::OutOfMemory)),
         }
     }
 
@@ -270,6 +314,8 @@ impl<J: Recurring<T>, T: Clocked> Scheduler<J, T> {
         ensures told { IfOk result (LatestTellsStop id (held_of T.moment self.new)) }
         ensures refused { OnErr result (IsSomeAnd ((held_of T.moment self.old).jobs id) (IsToTake now)) }
         ensures same { OnErr result (IsSame (held_of T.moment self.old) (held_of T.moment self.new)) }
+        ensures full { OnErr result (CanLack T.can_lack_memory (turn_capacity_of self.old) (held_of T.moment self.old).count) }
+        ensures no_less { KeepsRoom self.old self.new }
     {
         let Some(waiting) = self.jobs.get(id) else {
             return Ok(Latest::NoJob);
@@ -285,7 +331,8 @@ impl<J: Recurring<T>, T: Clocked> Scheduler<J, T> {
     }
 
     /// Moves the position of a job forward to `now`: its runs up to then are done, and none of them is given. This is for a time in which
-    /// the program didn't run. A position is never moved back. A later next run is kept; otherwise the job is searched again from `now`.
+    /// the program didn't run. With a `now` of a minute ago, what is less than a minute late stays due: a grace time. A position is never
+    /// moved back. A later next run is kept; otherwise the job is searched again from `now`. A paused job stays where it is.
     /// Where that search is refused, the job is stopped, and the answer says so. Each answer but `Moved`, and lack of memory, changes
     /// nothing.
     pub fn skip_to(&mut self, id: u64, now: i64) -> Result<Skip, AllocError>
@@ -293,12 +340,17 @@ impl<J: Recurring<T>, T: Clocked> Scheduler<J, T> {
         ensures told { IfOk result (SkipTellsStop id (held_of T.moment self.new)) }
         ensures refused { OnErr result (IsSomeAnd ((held_of T.moment self.old).jobs id) (IsToMove now)) }
         ensures same { OnErr result (IsSame (held_of T.moment self.old) (held_of T.moment self.new)) }
+        ensures full { OnErr result (CanLack T.can_lack_memory (turn_capacity_of self.old) (held_of T.moment self.old).count) }
+        ensures no_less { KeepsRoom self.old self.new }
     {
         let Some(waiting) = self.jobs.get(id) else {
             return Ok(Skip::NoJob);
         };
         if now <= waiting.position.second() {
             return Ok(Skip::AlreadyThere);
+        }
+        if waiting.is_paused() {
+            return Ok(Skip::Paused);
         }
         match waiting.position.at_second(now) {
             Some(position) => {
@@ -314,17 +366,94 @@ impl<J: Recurring<T>, T: Clocked> Scheduler<J, T> {
         }
     }
 
-    /// Searches again after the position of a stopped job, and returns the result. Lack of memory changes nothing.
+    /// Moves the position of each job forward to `now`, as [`skip_to`](Scheduler::skip_to) does: of what was missed nothing is given. A job
+    /// that stands at `now` or later stays there, and so does one whose zone doesn't hold `now`. Returns whether one of the jobs that moved is
+    /// stopped.
+    ///
+    /// The jobs move in the order of their ids. Where memory is lacking for the search of one, those before it have moved, and it and those
+    /// after it stand as they did.
+    pub fn skip_all_to(&mut self, now: i64) -> Result<bool, AllocError>
+        ensures skipped { OnOk result (SkipsAll now (held_of T.moment self.old) (held_of T.moment self.new)) }
+        ensures told { IfOk result (TellsSkipped now (held_of T.moment self.old) (held_of T.moment self.new)) }
+        ensures refused { OnErr result ((n : ℕ) × SkipsBelow n now (held_of T.moment self.old) (held_of T.moment self.new)
+            × IsSomeAnd ((held_of T.moment self.old).jobs n) (IsToMove now)) }
+        ensures full { OnErr result (CanLack T.can_lack_memory (turn_capacity_of self.old) (held_of T.moment self.old).count) }
+        ensures no_less { KeepsRoom self.old self.new }
+    {
+        let next_id = self.jobs.next_id();
+        let mut has_stopped = false;
+        let mut from = 0;
+        while let Some(id) = self.jobs.id_from(from) {
+            let skip = self.skip_to(id, now)?;
+            has_stopped = skip.is_stopped_or(has_stopped);
+            prove!(id < next_id);
+            from = id + 1;
+        }
+        Ok(has_stopped)
+    }
+
+    /// Pauses a job: it stays under its id, where it stands, and gives nothing until it is resumed ([`resume`](Scheduler::resume)), whatever
+    /// else is called. It is stopped meanwhile ([`Stop::Paused`](crate::Stop::Paused)), no longer for another reason. Returns whether there
+    /// is such a job. It makes no search and takes no memory.
+    ///
+    /// `remove`, `replace` and `replace_job` end a pause: the job that is put in the place of a paused one isn't paused.
+    pub fn pause(&mut self, id: u64) -> bool
+        ensures paused { Pauses id (held_of T.moment self.old) (held_of T.moment self.new) result }
+        ensures no_less { KeepsRoom self.old self.new }
+    {
+        let is_there = self.jobs.get(id).is_some();
+        self.jobs.renew(id, Next::Stopped(Stop::Paused));
+        settle(&mut self.turns, &self.jobs);
+        is_there
+    }
+
+    /// Ends the pause of a job: from then on its runs after `from` are given, or those after its position, if that is later. Runs
+    /// up to there are passed over: with the time of the call as `from`, those of the pause. With a `from` no later than the position,
+    /// they are all given.
+    ///
+    /// Where the search is refused, the job is stopped, and the answer says so. Each answer but `GoesOn`, and lack of memory, changes
+    /// nothing.
+    pub fn resume(&mut self, id: u64, from: i64) -> Result<Resume, AllocError>
+        ensures resumed { IfOk result (Resumes id from (held_of T.moment self.old) (held_of T.moment self.new)) }
+        ensures told { IfOk result (ResumeTellsStop id (held_of T.moment self.new)) }
+        ensures refused { OnErr result (IsSomeAnd ((held_of T.moment self.old).jobs id) (IsToResume from)) }
+        ensures same { OnErr result (IsSame (held_of T.moment self.old) (held_of T.moment self.new)) }
+        ensures full { OnErr result (CanLack T.can_lack_memory (turn_capacity_of self.old) (held_of T.moment self.old).count) }
+        ensures no_less { KeepsRoom self.old self.new }
+    {
+        let Some(waiting) = self.jobs.get(id) else {
+            return Ok(Resume::NoJob);
+        };
+        if !waiting.is_paused() {
+            return Ok(Resume::NotPaused);
+        }
+        let second = waiting.position.second().max(from);
+        match waiting.position.at_second(second) {
+            Some(position) => {
+                let is_stopped = self.move_to(id, position)?;
+                Ok(Resume::GoesOn { is_stopped })
+            }
+            None => Ok(Resume::NotHeld),
+        }
+    }
+
+    /// Searches again after the position of a job that a search stopped, and returns the result. A job that is paused stays so. Lack of
+    /// memory changes nothing.
     pub fn ask_again(&mut self, id: u64) -> Result<Again, AllocError>
         ensures asked { IfOk result (λ again. AsksAgain id (held_of T.moment self.old) (held_of T.moment self.new) (is_asked again)) }
         ensures told { IfOk result (AgainTellsStop id (held_of T.moment self.new)) }
         ensures refused { OnErr result (IsSomeAnd ((held_of T.moment self.old).jobs id) (λ s. IsSome s.stop)) }
         ensures same { OnErr result (IsSame (held_of T.moment self.old) (held_of T.moment self.new)) }
+        ensures full { OnErr result (CanLack T.can_lack_memory (turn_capacity_of self.old) (held_of T.moment self.old).count) }
+        ensures no_less { KeepsRoom self.old self.new }
     {
         let Some(waiting) = self.jobs.get(id) else {
             return Ok(Again::NotStopped);
         };
         if !waiting.is_stopped() {
+            return Ok(Again::NotStopped);
+        }
+        if waiting.is_paused() {
             return Ok(Again::NotStopped);
         }
         let next = next_of(&waiting.job, &waiting.position)?;
@@ -348,10 +477,18 @@ impl<J: Recurring<T>, T: Clocked> Scheduler<J, T> {
     pub fn stopped(&self) -> Stops<'_, J, T>
         ensures stops { (id : ℕ) → lookup (is_at (nat_cmp id)) result ≡ option_and_then (λ s. s.stop) ((held_of T.moment self.now).jobs id) }
         ensures ordered { IsStrictlySortedBy nat_cmp (keys_of result) }
+        ensures count { length result ≡ stop_count_of self.now }
     {
         Stops {
             jobs: self.jobs.iter(),
         }
+    }
+
+    /// How many jobs are stopped: as many as [`stopped`](Scheduler::stopped) lists. It is known at once, however many jobs there are.
+    pub fn stopped_len(&self) -> usize
+        ensures { result ≡ stop_count_of self.now }
+    {
+        self.jobs.stopped()
     }
 
     /// Removes a job, and returns it with its position, so that it can be added again; `None` where no job has the id. It takes no
@@ -360,6 +497,8 @@ impl<J: Recurring<T>, T: Clocked> Scheduler<J, T> {
         ensures given { IsGivenBack T.moment ((held_of T.moment self.old).jobs id) result }
         ensures removed { IsRemoved id (held_of T.moment self.old) (held_of T.moment self.new) }
         ensures count { (held_of T.moment self.new).count + (if is_some result then 1 else 0) ≡ (held_of T.moment self.old).count }
+        ensures room { capacity_of self.old ≤ capacity_of self.new + 1 }
+        ensures turns { turn_capacity_of self.old ≤ turn_capacity_of self.new }
     {
         let removed = self.jobs.remove(id);
         settle(&mut self.turns, &self.jobs);
@@ -367,6 +506,19 @@ impl<J: Recurring<T>, T: Clocked> Scheduler<J, T> {
             Some(waiting) => Some(waiting.into_parts()),
             None => None,
         }
+    }
+
+    /// Takes the scheduler apart: its jobs with their positions, by their ids, in the order of the ids. Added again at these positions they
+    /// go on as they would have. It takes no memory.
+    pub fn into_jobs(self) -> IntoJobs<J, T>
+    where
+        J: Drop,
+        ensures jobs { (id : ℕ) → IsGivenBack T.moment ((held_of T.moment self).jobs id) (lookup (is_at (nat_cmp id)) result) }
+        ensures count { length result ≡ (held_of T.moment self).count }
+        ensures ordered { IsStrictlySortedBy nat_cmp (keys_of result) }
+    {
+        let Scheduler { jobs, turns: _ } = self;
+        jobs.into_jobs()
     }
 
     // Whether no id is left for another job.
@@ -396,6 +548,8 @@ impl<J: Recurring<T>, T: Clocked> Scheduler<J, T> {
         ensures told { IfOk result (λ due. IfSome due (λ d. TellsStop (held_of T.moment self.new) d.id d.is_stopped)) }
         ensures refused { OnErr result (IsSame (held_of T.moment self.old) (held_of T.moment self.new)) }
         ensures due { OnErr result (IsSomeDue (held_of T.moment self.old) now) }
+        ensures full { OnErr result (CanLack T.can_lack_memory (turn_capacity_of self.old) (held_of T.moment self.old).count) }
+        ensures no_less { KeepsRoom self.old self.new }
     {
         if turn.second > now {
             return Ok(None);
@@ -410,6 +564,8 @@ impl<J: Recurring<T>, T: Clocked> Scheduler<J, T> {
         ensures given { OnOk result (MovesTo (held_of T.moment self.old) turn.id turn.second (held_of T.moment self.new)) }
         ensures told { IfOk result (TellsStop (held_of T.moment self.new) turn.id) }
         ensures refused { OnErr result (IsSame (held_of T.moment self.old) (held_of T.moment self.new)) }
+        ensures full { OnErr result (CanLack T.can_lack_memory (turn_capacity_of self.old) (held_of T.moment self.old).count) }
+        ensures no_less { KeepsRoom self.old self.new }
     {
         match self.run_of(turn) {
             Some(time) => self.move_to(turn.id, time),
@@ -433,6 +589,8 @@ impl<J: Recurring<T>, T: Clocked> Scheduler<J, T> {
         ensures given { IfOk result (IsLastGiven T.moment (held_of T.moment self.old) id known last (held_of T.moment self.new)) }
         ensures told { IfOk result (LatestTellsStop id (held_of T.moment self.new)) }
         ensures same { OnErr result (IsSame (held_of T.moment self.old) (held_of T.moment self.new)) }
+        ensures full { OnErr result (CanLack T.can_lack_memory (turn_capacity_of self.old) (held_of T.moment self.old).count) }
+        ensures no_less { KeepsRoom self.old self.new }
     {
         match last {
             Last::Later(run) => {
@@ -468,6 +626,8 @@ impl<J: Recurring<T>, T: Clocked> Scheduler<J, T> {
         ensures refused { IfErr result (λ e. e.error ≡ OutOfMemory) }
         ensures handed_back { IfErr result (IsHandedBack job given) }
         ensures same { OnErr result (IsSame (held_of T.moment self.old) (held_of T.moment self.new)) }
+        ensures full { OnErr result (CanLack T.can_lack_memory (turn_capacity_of self.old) (held_of T.moment self.old).count) }
+        ensures no_less { KeepsRoom self.old self.new }
     {
         match Waiting::new(job, position) {
             Ok(waiting) => match self.put(id, waiting) {
@@ -484,10 +644,13 @@ impl<J: Recurring<T>, T: Clocked> Scheduler<J, T> {
         J: Drop,
         requires there { IsSome ((held_of T.moment self.old).jobs id) }
         requires fits { Fits J.runs T.moment other }
+        requires stop { IfSome (stop_of other.next) (StopsAt (T.moment other.position)) }
         ensures replaced { IfOk result (λ out. Replaces T.moment id other.job (T.moment other.position) (held_of T.moment self.old) (held_of T.moment self.new) (out.job, out.position)) }
         ensures told { IfOk result (λ out. TellsStop (held_of T.moment self.new) id out.is_stopped) }
         ensures returned { IfErr result (λ returned. returned ≡ other) }
         ensures same { OnErr result (IsSame (held_of T.moment self.old) (held_of T.moment self.new)) }
+        ensures full { OnErr result (turn_capacity_of self.old ≤ (held_of T.moment self.old).count) }
+        ensures no_less { KeepsRoom self.old self.new }
     {
         let Ok(()) = make_room(&mut self.turns, &self.jobs) else {
             return Err(other);
@@ -513,6 +676,7 @@ impl<J: Recurring<T>, T: Clocked> Scheduler<J, T> {
         ensures moved { MovesTo (held_of T.moment self.old) id (T.moment position).instant (held_of T.moment self.new) }
         ensures kept { IfSome ((held_of T.moment self.old).jobs id) (λ s.
             IsSomeAnd ((held_of T.moment self.new).jobs id) (λ s'. (s'.next ≡ s.next) × (s'.stop ≡ None))) }
+        ensures no_less { KeepsRoom self.old self.new }
     {
         self.jobs.move_before_next(id, position);
     }
@@ -524,6 +688,8 @@ impl<J: Recurring<T>, T: Clocked> Scheduler<J, T> {
         ensures moved { OnOk result (IfSome ((held_of T.moment self.old).jobs id) (λ s. (T.moment position).zone ≡ s.position.zone
             → MovesTo (held_of T.moment self.old) id (T.moment position).instant (held_of T.moment self.new))) }
         ensures same { OnErr result (IsSame (held_of T.moment self.old) (held_of T.moment self.new)) }
+        ensures full { OnErr result (CanLack T.can_lack_memory (turn_capacity_of self.old) (held_of T.moment self.old).count) }
+        ensures no_less { KeepsRoom self.old self.new }
     {
         let Some(waiting) = self.jobs.get(id) else {
             return Ok(false);
@@ -546,7 +712,8 @@ impl<J: Recurring<T>, T: Clocked> Scheduler<J, T> {
         ensures refused { IfErr result (λ e. e.error ≡ OutOfMemory) }
         ensures handed_back { IfErr result (IsHandedBack job given) }
         ensures same { OnErr result (IsSame (held_of T.moment self.old) (held_of T.moment self.new)) }
-        ensures no_less { capacity_of self.old ≤ capacity_of self.new }
+        ensures full { OnErr result (CanLack T.can_lack_memory (capacity_of self.old) (held_of T.moment self.old).count) }
+        ensures no_less { KeepsRoom self.old self.new }
     {
         match Waiting::new(job, position) {
             Ok(waiting) => match self.keep(waiting) {
@@ -562,13 +729,14 @@ impl<J: Recurring<T>, T: Clocked> Scheduler<J, T> {
     where
         J: Drop,
         requires fits { Fits J.runs T.moment waiting }
+        requires stop { IfSome (stop_of waiting.next) (StopsAt (T.moment waiting.position)) }
         requires room { self.old.jobs.next_id < 2 ^ 64 - 1 }
         ensures added { IfOk result (λ added. IsAdded waiting.job (T.moment waiting.position) (held_of T.moment self.old) (held_of T.moment self.new) added.id) }
         ensures told { IfOk result (λ added. TellsStop (held_of T.moment self.new) added.id added.is_stopped) }
         ensures returned { IfErr result (λ returned. returned ≡ waiting) }
         ensures same { OnErr result (IsSame (held_of T.moment self.old) (held_of T.moment self.new)) }
-        ensures no_less { capacity_of self.old ≤ capacity_of self.new }
-        ensures full { OnErr result (capacity_of self.old ≡ (held_of T.moment self.old).count) }
+        ensures full { OnErr result (capacity_of self.old ≤ (held_of T.moment self.old).count) }
+        ensures no_less { KeepsRoom self.old self.new }
     {
         let Ok(()) = make_room(&mut self.turns, &self.jobs) else {
             return Err(waiting);

@@ -13,7 +13,8 @@ use std::alloc::AllocError;
 use std::cmp::Reverse;
 use std::collections::BinaryHeap;
 
-/// A run that is given: of which job, when, and whether the job is stopped.
+/// A run that is given: of which job, when, and whether the job is stopped. [`Scheduler::get`](crate::Scheduler::get) with its id gives the
+/// job, and the time of the run as the job's position.
 #[derive(Debug, Clone, Copy, PartialEq, Eq)]
 pub struct Due {
     /// The id of its job.
@@ -67,24 +68,45 @@ fn turn_at(turn: &Reverse<(i64, u64)>) -> Turn
     Turn { id, second }
 }
 
-// Makes room for one more turn.
+// Makes room for one more turn. Memory lacks only where all that have room are of jobs.
 pub(crate) fn make_room<J, T>(turns: &mut Turns, jobs: &Jobs<J, T>) -> Result<(), AllocError>
     requires { AreTurnsOf (job_of jobs.now) (heap_items turns.old) }
     ensures turns { AreTurnsOf (job_of jobs.now) (heap_items turns.new) }
     ensures room { OnOk result (heap_len turns.new < heap_capacity turns.new) }
-    ensures no_less { heap_room turns.old ≤ heap_room turns.new }
-    ensures full { OnErr result (heap_room turns.old ≡ 0) }
+    ensures no_less { heap_capacity turns.old ≤ heap_capacity turns.new }
+    ensures full { OnErr result (heap_capacity turns.old ≤ length jobs.now.entries) }
     ensures few_gone { (heap_len turns.old < heap_capacity turns.old) ⊎ FewGone (heap_len turns.new) (length jobs.now.entries) }
 {
     thin_out(turns, jobs);
-    take_room(turns)
+    match take_room(turns) {
+        Ok(()) => Ok(()),
+        Err(_) => take_room_of_gone(turns, jobs),
+    }
+}
+
+// Puts the turns of the next runs anew, where fewer of them than have room are of jobs.
+fn take_room_of_gone<J, T>(turns: &mut Turns, jobs: &Jobs<J, T>) -> Result<(), AllocError>
+    requires { AreTurnsOf (job_of jobs.now) (heap_items turns.old) }
+    ensures turns { AreTurnsOf (job_of jobs.now) (heap_items turns.new) }
+    ensures room { OnOk result (heap_len turns.new < heap_capacity turns.new) }
+    ensures no_less { heap_capacity turns.old ≤ heap_capacity turns.new }
+    ensures full { OnErr result (heap_capacity turns.old ≤ length jobs.now.entries) }
+    ensures few { OnOk result (heap_len turns.new ≤ length jobs.now.entries) }
+    ensures same { OnErr result (heap_len turns.new ≡ heap_len turns.old) }
+{
+    if turns.capacity() <= jobs.len() {
+        return Err(AllocError);
+    }
+    put_anew(turns, jobs);
+    settle(turns, jobs);
+    Ok(())
 }
 
 // Puts the turns of the next runs anew, where there is no room for another and an eighth of the turns is of no job.
 fn thin_out<J, T>(turns: &mut Turns, jobs: &Jobs<J, T>)
     requires { AreTurnsOf (job_of jobs.now) (heap_items turns.old) }
     ensures turns { AreTurnsOf (job_of jobs.now) (heap_items turns.new) }
-    ensures no_less { heap_room turns.old ≤ heap_room turns.new }
+    ensures no_less { heap_capacity turns.old ≤ heap_capacity turns.new }
     ensures few_gone { (heap_len turns.old < heap_capacity turns.old) ⊎ FewGone (heap_len turns.new) (length jobs.now.entries) }
 {
     if has_many_gone(turns.len(), turns.capacity(), jobs.len()) {
@@ -98,8 +120,7 @@ fn take_room(turns: &mut Turns) -> Result<(), AllocError>
     ensures turns { heap_items turns.new ≡ heap_items turns.old }
     ensures len { heap_len turns.new ≡ heap_len turns.old }
     ensures room { OnOk result (heap_len turns.new < heap_capacity turns.new) }
-    ensures no_less { heap_room turns.old ≤ heap_room turns.new }
-    ensures full { OnErr result (heap_room turns.old ≡ 0) }
+    ensures no_less { heap_capacity turns.old ≤ heap_capacity turns.new }
 {
     if turns.len() < turns.capacity() {
         return Ok(());
@@ -113,6 +134,7 @@ fn put_anew<J, T>(turns: &mut Turns, jobs: &Jobs<J, T>)
     ensures ordered { IsHeap heap_cmp (heap_items turns.new) }
     ensures listed { AreListed (job_of jobs.now) (heap_items turns.new) }
     ensures few { heap_len turns.new ≤ length jobs.now.entries }
+    ensures no_less { heap_capacity turns.old ≤ heap_capacity turns.new }
 {
     turns.clear();
     let mut left = jobs.iter();
@@ -140,7 +162,7 @@ pub(crate) fn settle<J, T>(turns: &mut Turns, jobs: &Jobs<J, T>)
     requires ordered { IsHeap heap_cmp (heap_items turns.old) }
     requires listed { AreListed (job_of jobs.now) (heap_items turns.old) }
     ensures turns { AreTurnsOf (job_of jobs.now) (heap_items turns.new) }
-    ensures no_less { heap_room turns.old ≤ heap_room turns.new }
+    ensures capacity { heap_capacity turns.new ≡ heap_capacity turns.old }
     ensures no_more { heap_len turns.new ≤ heap_len turns.old }
 {
     while let Some(turn) = first_turn(turns) {
@@ -157,25 +179,29 @@ pub(crate) fn await_next<J, T>(turns: &mut Turns, jobs: &Jobs<J, T>, next: Next,
     requires ordered { IsHeap heap_cmp (heap_items turns.old) }
     requires listed { AreListedBut (job_of jobs.now) next id (heap_items turns.old) }
     ensures turns { AreTurnsOf (job_of jobs.now) (heap_items turns.new) }
-    ensures room { heap_room turns.old ≤ heap_room turns.new + 1 }
+    ensures no_less { heap_capacity turns.old ≤ heap_capacity turns.new }
 {
     put(turns, next, id);
     settle(turns, jobs);
 }
 
-// For how many more turns there is room.
-pub(crate) fn room(turns: &Turns) -> usize
-    ensures { result ≡ heap_room turns.now }
+// For how many more jobs there is room, beside so many.
+pub(crate) fn room(turns: &Turns, jobs: usize) -> usize
+    ensures { result ≡ heap_room turns.now jobs }
 {
-    turns.capacity() - turns.len()
+    turns.capacity().saturating_sub(jobs)
 }
 
-// Takes room for so many more, and for one besides: where a run is given, the turn of the next one is put there before its own is taken away.
-pub(crate) fn reserve(turns: &mut Turns, additional: usize) -> Result<(), AllocError>
+// Takes room for the turns of so many jobs, and for one besides: where a run is given, the turn of the next one is put there before its own is
+// taken away.
+pub(crate) fn reserve(turns: &mut Turns, jobs: usize) -> Result<(), AllocError>
     ensures turns { heap_items turns.new ≡ heap_items turns.old }
-    ensures no_less { heap_room turns.old ≤ heap_room turns.new }
-    ensures taken { OnOk result (heap_room turns.new ≡ max (heap_room turns.old) (additional + 1)) }
-    ensures full { OnErr result (heap_room turns.old ≤ additional) }
+    ensures no_less { heap_capacity turns.old ≤ heap_capacity turns.new }
+    ensures taken { OnOk result (heap_capacity turns.new ≡ max (heap_capacity turns.old) (jobs + 1)) }
+    ensures full { OnErr result (heap_capacity turns.old ≤ jobs) }
 {
-    turns.reserve_exact(additional.saturating_add(1))
+    if jobs < turns.capacity() {
+        return Ok(());
+    }
+    turns.reserve_exact((jobs - turns.len()).saturating_add(1))
 }

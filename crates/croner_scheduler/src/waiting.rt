@@ -1,6 +1,7 @@
 //! A job with its position and its next run.
-ghost use Rattle.std.specs.Prelude.{◌≡◌, is_some, option_map, IfOk, IfErr};
-ghost use Rattle.croner_scheduler.specs.Kept.{standing_of, stop_of, second_of, FitsNext, Fits};
+ghost use Rattle.std.specs.Prelude.{◌≡◌, true, is_some, option_map, IfOk, IfErr, IfSome, OnErr, IsTrue};
+ghost use Rattle.croner_base.specs.Zone.{at_instant};
+ghost use Rattle.croner_scheduler.specs.Kept.{standing_of, stop_of, is_paused, second_of, StopsAt, FitsNext, Fits};
 ghost use Rattle.croner_scheduler.specs.Private.Latest.{due_second};
 ghost use Rattle.croner_scheduler.specs.Private.Steps.{next_of_run, next_of_refusal, IsSecondBefore, job_at_position, job_standing_at, is_next_at, is_next_after, job_with_next, again_of, refusal_of};
 
@@ -18,13 +19,16 @@ pub enum Refusal {
     InvalidTime,
 }
 
-/// Why a job is stopped. That happens only where its zone isn't calm, or the backend doesn't hold what a search from its position needs.
+/// Why a job is stopped. A search stops it only where its zone isn't calm, or the backend doesn't hold what a search from its position
+/// needs.
 #[derive(Debug, Clone, Copy)]
 pub enum Stop {
     /// Its backend refused the search after its position.
     Refused(Refusal),
     /// The run that the search found isn't later than the position. That never happens in a calm zone.
     NotLater,
+    /// It was paused ([`Scheduler::pause`](crate::Scheduler::pause)), and goes on when it is resumed.
+    Paused,
 }
 
 /// The next run of a job, or why there is none.
@@ -140,6 +144,16 @@ impl<J, T> Waiting<J, T> {
         self.next.is_stopped()
     }
 
+    // Whether it is paused.
+    pub(crate) fn is_paused(&self) -> bool
+        ensures { result ≡ is_paused (stop_of self.now.next) }
+    {
+        match self.next {
+            Next::Stopped(Stop::Paused) => true,
+            Next::Stopped(Stop::Refused(_) | Stop::NotLater) | Next::Run(_) | Next::Over => false,
+        }
+    }
+
     // Whether its next run is at a second.
     pub(crate) fn runs_at(&self, second: i64) -> bool
         ensures { result ≡ is_next_at second self.now.next }
@@ -173,7 +187,9 @@ impl<J: Recurring<T>, T: Clocked> Waiting<J, T> {
         ensures job { IfOk result (λ w. w.job ≡ job) }
         ensures position { IfOk result (λ w. w.position ≡ position) }
         ensures fits { IfOk result (Fits J.runs T.moment) }
+        ensures stop { IfOk result (λ w. IfSome (stop_of w.next) (StopsAt (T.moment w.position))) }
         ensures returned { IfErr result (λ returned. returned ≡ job) }
+        ensures lacks { OnErr result (IsTrue T.can_lack_memory) }
     {
         match next_of(&job, &position) {
             Ok(next) => Ok(Waiting {
@@ -206,6 +222,17 @@ impl<J: Recurring<T>, T: Clocked> Waiting<J, T> {
     }
 }
 
+// The whole second in which a time lies, on its clock, which holds it.
+pub(crate) fn whole_second<T: Clocked>(time: &T) -> T
+    ensures moment { T.moment result ≡ at_instant (T.moment time.now).zone (T.moment time.now).instant }
+    ensures held { (T.moment time.now).zone.holds (T.moment time.now).instant ≡ true }
+{
+    match time.at_second(time.second()) {
+        Some(whole) => whole,
+        None => unreachable!(),
+    }
+}
+
 // The second before that in which a time lies, on its clock.
 pub(crate) fn second_before<T: Clocked>(time: &T) -> Option<T>
     ensures { IsSecondBefore T.moment (T.moment time.now) result }
@@ -218,12 +245,13 @@ pub(crate) fn second_before<T: Clocked>(time: &T) -> Option<T>
 }
 
 // What comes next of a job from a position.
-#[tactic(auto, using(crate::proofs::NextRuns::fits_refused))]
+#[tactic(auto, using(crate::proofs::NextRuns::fits_refused, crate::proofs::NextRuns::lacks_refused))]
 pub(crate) fn next_of<J: Recurring<T>, T: Clocked>(
     job: &J,
     position: &T,
 ) -> Result<Next, AllocError>
-    ensures { IfOk result (FitsNext (J.runs job.now) (T.moment position.now)) }
+    ensures fits { IfOk result (FitsNext (J.runs job.now) (T.moment position.now)) }
+    ensures lacks { OnErr result (IsTrue T.can_lack_memory) }
 {
     match job.next_after(position) {
         Ok(found) => Ok(next_of_run(position, &found)),

@@ -1,5 +1,5 @@
 -- Worked rows, computed from the definitions: a day from 00:00 on to 24:00, with starts at 02:00 of two jobs, and at 04:30.
-use Rattle.std.proofs.Common.{◌≡◌, ℕ, ℤ, pos, true, false, Bool, List, [], ◌∷◌, refl, arith}
+use Rattle.std.proofs.Common.{◌≡◌, ℕ, ℤ, pos, true, false, List, [], ◌∷◌, refl, arith}
 use Rattle.cronplan.specs.declared.counts.Unit.TheVariants as units
 use Rattle.cronplan.specs.declared.moments.Moment.{Moment}
 use Rattle.std.specs.declared.cmp.Ordering.TheVariants.{Less, Greater}
@@ -57,6 +57,10 @@ begins_with_a_start = refl
 -- three starts at 02:00, one at 04:30; four on the day; none at 03:00
 counts : (starts_at units.Second (pos 7_200) day ≡ 3) × (starts_at units.HourOfDay (pos 4) day ≡ 1) × (starts_at units.Day (pos 0) day ≡ 4) × (starts_at units.Hour (pos 3) day ≡ 0)
 counts = (refl, refl, refl, refl)
+
+-- a start that comes no time is counted at no second
+zero : starts_at units.Second (pos 7_200) (start 7_200 0 0 ∷ []) ≡ 0
+zero = refl
 
 -- the starts at 02:00; the moment there before the one at 04:30, which has fewer, and of two equal ones the earlier first
 then : (at_second (pos 7_200) day ≡ start 7_200 0 1 ∷ start 7_200 1 2 ∷ []) × (at_second (pos 7_201) day ≡ [])

@@ -10,7 +10,9 @@ use Rattle.croner_base.specs.TableZone.{clock}
 use Rattle.croner_base.specs.Zone.{Zone}
 use Rattle.cronplan.specs.declared.plan.Plan.{Plan}
 use Rattle.cronplan.specs.declared.start.JobStart.{JobStart}
-use Rattle.cronplan.specs.OtherClock.{IsOnClock, shown_on}
+use Rattle.cronplan.specs.declared.counts.Unit.TheVariants as units
+use Rattle.cronplan.specs.Counts.{starts_at}
+use Rattle.cronplan.specs.OtherClock.{IsOnClock, shown_on, all_shown_on}
 
 abbrev new_york : Zone
 new_york = clock (neg_ℤ (pos 18_000)) ((pos 1_805_007_600, neg_ℤ (pos 14_400)) ∷ [])
@@ -48,3 +50,12 @@ not_as_before old new had has on =
     (subst (λ (ss : List JobStart). All shows (map (shown_on new_york) ss)) (sym had) first)) in
     let wall : pos 1_806_204_600 ≡ pos 1_806_183_000 = there 0 in_paris (omega arith) in
     absurd (omega (arith, ints, wall))
+
+-- a plan of Paris has that start on the day before, where its dates are asked for on New York's clock; and on its own clock where it is
+abbrev paris : Zone
+paris = clock (pos 3_600) ((pos 1_806_195_600, pos 7_200) ∷ [])
+
+by_the_clock_that_is_asked_for : (starts_at units.Hour (pos 501_717) (all_shown_on new_york (in_paris ∷ [])) ≡ 2) × (starts_at units.Hour (pos 501_723) (all_shown_on new_york (in_paris ∷ [])) ≡ 0)
+    × (starts_at units.Hour (pos 501_723) (all_shown_on paris (in_paris ∷ [])) ≡ 2)
+unfolding clock
+by_the_clock_that_is_asked_for = (refl, refl, refl)

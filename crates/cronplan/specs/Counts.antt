@@ -1,7 +1,8 @@
 -- Counts of starts. Source: this crate's documentation.
-use Rattle.std.specs.Prelude.{◌<◌, ℕ, ℤ, pos, if◌then◌else◌, List, sum_by}
+use Rattle.std.specs.Prelude.{◌≡◌, ◌<◌, ℕ, ℤ, pos, if◌then◌else◌, List, Some, sum_by}
+use Rattle.std.specs.BTreeMap.{BTreeMap, get}
 use Rattle.std.specs.Int.{int_div_euclid, int_rem_euclid}
-use Rattle.std.specs.Ordering.{int_eq}
+use Rattle.std.specs.Ordering.{int_eq, int_cmp}
 use Rattle.croner_base.specs.Calendar.{day_seconds}
 use Rattle.cronplan.specs.declared.counts.Unit.{Unit}
 use Rattle.cronplan.specs.declared.counts.Unit.TheVariants as units
@@ -28,6 +29,10 @@ added_at unit q s = if int_eq (key_of unit s) q then s.count else 0
 -- how many starts there are in that second, hour or day
 abbrev pub starts_at : Unit → ℤ → List JobStart → ℕ
 starts_at unit q starts = sum_by (added_at unit q) starts
+
+-- no second, hour or day is there with a count of 0
+abbrev pub HasNoZero : BTreeMap ℤ ℕ → Type 0
+HasNoZero counts = (q : ℤ) → ¬ (get int_cmp counts q ≡ Some 0)
 
 -- how many starts these are
 abbrev pub count_of : List JobStart → ℕ

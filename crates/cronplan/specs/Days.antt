@@ -14,6 +14,7 @@ use Rattle.cronplan.specs.declared.start.JobStart.{JobStart}
 use Rattle.cronplan.specs.Changes.{changes_in, skips_hour, repeats_hour}
 use Rattle.cronplan.specs.Counts.{date_of, hour_of, starts_at}
 use Rattle.cronplan.specs.Moments.{AreMoments}
+use Rattle.cronplan.specs.OtherClock.{all_shown_on}
 
 -- ---- the hours that a clock shows in a span, from the least to the greatest
 
@@ -90,10 +91,14 @@ last_date z span starts = fold (λ date s. int_max date (date_of s.wall)) (date_
 abbrev pub dates_between : ℤ → ℤ → ℕ
 dates_between first last = if int_lt last first then 0 else unsigned_abs (last -ℤ first) + 1
 
--- the dates of a plan's starts in a span, on the clock of a zone with these changes: from the first to the last, none left out
-pub record AreDays (z : Zone) (table : List (ℤ × ℤ)) (span : Span) (starts : List JobStart) (days : List Day) (changes : List ClockChange) : Type 0 where
+-- the dates of starts in a span, on the clock of a zone with these changes, which shows their walls: from the first to the last, none left out
+pub record AreShownDays (z : Zone) (table : List (ℤ × ℤ)) (span : Span) (starts : List JobStart) (days : List Day) (changes : List ClockChange) : Type 0 where
   pub changes_are : changes ≡ changes_in z span table
   pub moments : List Moment
   pub are_moments : AreMoments starts moments
   pub count : length days ≡ dates_between (first_date z span starts) (last_date z span starts)
   pub each : (k : ℕ) (d : Day) → k < length days → IsDay starts moments changes (shown_hours z span changes) (first_date z span starts +ℤ pos k) (slice_index_or days k d)
+
+-- the dates of a plan's starts in a span, each start where the clock of the zone shows it, whatever clock the plan is on
+abbrev pub AreDays : Zone → List (ℤ × ℤ) → Span → List JobStart → List Day → List ClockChange → Type 0
+AreDays z table span starts days changes = AreShownDays z table span (all_shown_on z starts) days changes

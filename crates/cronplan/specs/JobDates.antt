@@ -9,6 +9,7 @@ use Rattle.cronplan.specs.declared.span.Span.{Span}
 use Rattle.cronplan.specs.declared.start.JobStart.{JobStart}
 use Rattle.cronplan.specs.Counts.{date_of}
 use Rattle.cronplan.specs.Days.{first_date, last_date, dates_between}
+use Rattle.cronplan.specs.OtherClock.{all_shown_on}
 
 -- ---- dates
 
@@ -73,8 +74,12 @@ daily_jobs whole starts = map (λ s. s.job) (filter (λ s. is_daily whole starts
 abbrev pub rarer_starts : DateRange → List JobStart → List JobStart
 rarer_starts whole starts = filter (λ s. not (is_daily whole starts s.job)) (first_ones is_same_day starts)
 
--- those of a plan's starts in a span, on the clock of a zone
-pub record AreJobDates (z : Zone) (span : Span) (starts : List JobStart) (r : JobDates) : Type 0 where
+-- those of starts in a span, on the clock of a zone, which shows their walls
+pub record AreShownJobDates (z : Zone) (span : Span) (starts : List JobStart) (r : JobDates) : Type 0 where
   pub dates_are : r.dates ≡ dates_of z span starts
   pub daily_are : r.daily.items ≡ daily_jobs (whole_dates z span) starts
   pub rarer_are : r.rarer.items ≡ rarer_starts (whole_dates z span) starts
+
+-- those of a plan's starts in a span, each start where the clock of the zone shows it, whatever clock the plan is on
+abbrev pub AreJobDates : Zone → Span → List JobStart → JobDates → Type 0
+AreJobDates z span starts r = AreShownJobDates z span (all_shown_on z starts) r

@@ -1,8 +1,8 @@
 //! Counts of starts: at a second, in an hour, on a day.
-ghost use Rattle.std.specs.Prelude.{◌≡◌, ◌+◌, ◌<◌, ◌≤◌, ◌^◌, ◌↔◌, ℤ, IsTrue, IfOk, OnOk, length, unwrap_or};
+ghost use Rattle.std.specs.Prelude.{◌≡◌, ◌+◌, ◌<◌, ◌≤◌, ◌^◌, ◌↔◌, ℤ, IsTrue, IfOk, OnOk, if◌then◌else◌, length, unwrap_or};
 ghost use Rattle.std.specs.BTreeMap.{get};
-ghost use Rattle.std.specs.Ordering.{int_cmp};
-ghost use Rattle.cronplan.specs.Counts.{key_of, hour_of, date_of, starts_at, added_at, count_of, IsFrequent};
+ghost use Rattle.std.specs.Ordering.{int_cmp, int_eq};
+ghost use Rattle.cronplan.specs.Counts.{key_of, hour_of, date_of, starts_at, added_at, count_of, HasNoZero, IsFrequent};
 
 use crate::start::JobStart;
 use croner_base::limits::SECONDS_PER_DAY;
@@ -63,12 +63,26 @@ fn add_start(
     ensures added { OnOk result ((q : ℤ) → unwrap_or (get int_cmp counts.new q) 0 ≡ unwrap_or (get int_cmp counts.old q) 0 + added_at unit q start.now) }
     ensures few { OnOk result ((q : ℤ) → unwrap_or (get int_cmp counts.new q) 0 ≤ unwrap_or (get int_cmp counts.old q) 0 + 2 ^ 32) }
     ensures count { IfOk result (λ n. n ≡ unwrap_or (get int_cmp counts.new (key_of unit start.now)) 0) }
+    ensures no_zero { HasNoZero counts.old → OnOk result (HasNoZero counts.new) }
 {
     let key = key_of(start, unit);
     let had = counts.get(&key).copied().unwrap_or(0);
     let count = had + u64::from(start.count);
-    counts.insert(key, count)?;
+    put_count(counts, key, count)?;
     Ok(count)
+}
+
+// Puts the count of a second, hour or day in place of the one before it; a count of 0 is left out. It isn't less than that one.
+fn put_count(counts: &mut BTreeMap<i64, u64>, key: i64, count: u64) -> Result<(), AllocError>
+    requires { unwrap_or (get int_cmp counts.old key) 0 ≤ count }
+    ensures put { OnOk result ((q : ℤ) → unwrap_or (get int_cmp counts.new q) 0 ≡ (if int_eq key q then count else unwrap_or (get int_cmp counts.old q) 0)) }
+    ensures no_zero { HasNoZero counts.old → OnOk result (HasNoZero counts.new) }
+{
+    if count == 0 {
+        return Ok(());
+    }
+    counts.insert(key, count)?;
+    Ok(())
 }
 
 /// How many starts there are at each second, in each hour or on each day that has one.
@@ -81,7 +95,8 @@ pub(crate) fn counts_by(
     unit: Unit,
 ) -> Result<BTreeMap<i64, u64>, AllocError>
     requires { length starts.now ≤ 2 ^ 31 }
-    ensures { IfOk result (λ m. (q : ℤ) → unwrap_or (get int_cmp m q) 0 ≡ starts_at unit q starts.now) }
+    ensures counts { IfOk result (λ m. (q : ℤ) → unwrap_or (get int_cmp m q) 0 ≡ starts_at unit q starts.now) }
+    ensures no_zero { IfOk result HasNoZero }
 {
     let mut counts = BTreeMap::new(alloc);
     for start in starts {

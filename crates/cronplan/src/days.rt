@@ -1,15 +1,18 @@
 //! The dates of a plan, hour by hour.
-ghost use Rattle.std.specs.Prelude.{◌≡◌, ◌≤ℤ◌, ℤ, pos, neg_ℤ, ◌+ℤ◌, ◌*ℤ◌, ◌^◌, List, IfOk};
+ghost use Rattle.std.specs.Prelude.{◌≡◌, ◌≤◌, ◌≤ℤ◌, ℤ, pos, neg_ℤ, ◌+ℤ◌, ◌*ℤ◌, ◌^◌, List, length, IfOk};
+ghost use Rattle.std.specs.List.Sorted.{IsSorted};
 ghost use Rattle.croner_base.specs.TableZone.{table_zone};
 ghost use Rattle.cronplan.specs.Changes.{changes_in};
 ghost use Rattle.cronplan.specs.Counts.{date_of, starts_at};
-ghost use Rattle.cronplan.specs.Days.{AreDays, AreHours, IsDay, cell_of, fuller_moment, fullest_on, first_date, last_date, dates_between, shown_hours, shown_at_ends, widened_hours, first_with, last_with, is_outside};
+ghost use Rattle.cronplan.specs.Starts.{start_cmp};
+ghost use Rattle.cronplan.specs.Days.{AreDays, AreShownDays, AreHours, IsDay, cell_of, fuller_moment, fullest_on, first_date, last_date, dates_between, shown_hours, shown_at_ends, widened_hours, first_with, last_with, is_outside};
 ghost use Rattle.cronplan.specs.Private.CountedPlan.{IsCounted, AreRows, IsDateNumber};
 ghost use Rattle.cronplan.specs.declared.start.JobStart.{JobStart};
 
 use crate::changes::{ClockChange, changes_in, repeats_hour, skips_hour, wall_at};
-use crate::counts::{Unit, date_of, hour_of};
+use crate::counts::{Unit, counts_by, date_of, hour_of};
 use crate::moments::{Moment, moments_of};
+use crate::other_clock::shown_starts;
 use crate::plan::Plan;
 use crate::span::Span;
 use crate::start::JobStart;
@@ -74,35 +77,58 @@ struct Counted {
 }
 
 impl Plan {
-    /// The dates of the plan on the clock of a table, hour by hour. Each start of the plan lies in one cell.
+    /// The dates of the plan on the clock of a table, hour by hour. Each start of the plan lies in one cell: that of the hour which this
+    /// clock shows then, whatever clock the plan is on.
     ///
     /// The only error is lack of memory.
+    #[tactic(auto, using(crate::proofs::OtherClocks::shown_in_order, crate::proofs::OtherClocks::shown_as_many))]
     pub fn days(&self, alloc: Global, table: &ClockTable) -> Result<Days, AllocError>
         ensures { IfOk result (λ days. AreDays (table_zone table.now) table.now.changes.items self.now.span self.now.starts.items days.days.items days.changes.items) }
     {
-        let starts = self.starts.as_slice();
-        let counted = counts_of(alloc, self, table)?;
-        let first = first_date(table, self.span, starts);
-        let last = last_date(table, self.span, starts);
-        let days = days_between(alloc, &counted, first, last)?;
-        Ok(Days {
-            days,
-            changes: counted.changes,
-        })
+        let starts = shown_starts(alloc, self.starts.as_slice(), table)?;
+        days_of(alloc, starts.as_slice(), self.span, table)
     }
 }
 
-// What the cells of a plan are made of, on the clock of a table.
-fn counts_of(alloc: Global, plan: &Plan, table: &ClockTable) -> Result<Counted, AllocError>
-    ensures counted { IfOk result (IsCounted plan.now.starts.items) }
-    ensures changes { IfOk result (λ counted. counted.changes.items ≡ changes_in (table_zone table.now) plan.now.span table.now.changes.items) }
-    ensures shown { IfOk result (λ counted. counted.shown ≡ shown_hours (table_zone table.now) plan.now.span counted.changes.items) }
+// The dates of starts in a span, on the clock of a table, which shows their walls.
+fn days_of(
+    alloc: Global,
+    starts: &[JobStart],
+    span: Span,
+    table: &ClockTable,
+) -> Result<Days, AllocError>
+    requires order { IsSorted start_cmp starts.now }
+    requires few { length starts.now ≤ 2 ^ 31 }
+    ensures { IfOk result (λ days. AreShownDays (table_zone table.now) table.now.changes.items span starts.now days.days.items days.changes.items) }
 {
-    let by_hour = plan.counts(alloc, Unit::Hour)?;
-    let by_day = plan.counts(alloc, Unit::Day)?;
-    let moments = moments_of(alloc, plan.starts.as_slice())?;
-    let changes = changes_in(alloc, table, plan.span)?;
-    let shown = shown_hours(table, plan.span, changes.as_slice());
+    let counted = counts_of(alloc, starts, span, table)?;
+    let first = first_date(table, span, starts);
+    let last = last_date(table, span, starts);
+    let days = days_between(alloc, &counted, first, last)?;
+    Ok(Days {
+        days,
+        changes: counted.changes,
+    })
+}
+
+// What the cells of starts in a span are made of, on the clock of a table.
+fn counts_of(
+    alloc: Global,
+    starts: &[JobStart],
+    span: Span,
+    table: &ClockTable,
+) -> Result<Counted, AllocError>
+    requires order { IsSorted start_cmp starts.now }
+    requires few { length starts.now ≤ 2 ^ 31 }
+    ensures counted { IfOk result (IsCounted starts.now) }
+    ensures changes { IfOk result (λ counted. counted.changes.items ≡ changes_in (table_zone table.now) span table.now.changes.items) }
+    ensures shown { IfOk result (λ counted. counted.shown ≡ shown_hours (table_zone table.now) span counted.changes.items) }
+{
+    let by_hour = counts_by(alloc, starts, Unit::Hour)?;
+    let by_day = counts_by(alloc, starts, Unit::Day)?;
+    let moments = moments_of(alloc, starts)?;
+    let changes = changes_in(alloc, table, span)?;
+    let shown = shown_hours(table, span, changes.as_slice());
     Ok(Counted {
         by_hour,
         by_day,

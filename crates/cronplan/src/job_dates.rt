@@ -4,13 +4,14 @@ ghost use Rattle.std.specs.BTreeMap.{get};
 ghost use Rattle.std.specs.Ordering.{nat_cmp};
 ghost use Rattle.croner_base.specs.TableZone.{table_zone};
 ghost use Rattle.cronplan.specs.Counts.{date_of};
-ghost use Rattle.cronplan.specs.JobDates.{AreJobDates, are_all, count_of_dates, dates_of, first_ones, has_date, is_of_job, whole_dates, with_new};
+ghost use Rattle.cronplan.specs.JobDates.{AreJobDates, AreShownJobDates, are_all, count_of_dates, dates_of, first_ones, has_date, is_of_job, whole_dates, with_new};
 ghost use Rattle.cronplan.specs.Private.CountedPlan.{IsDateNumber};
 ghost use Rattle.cronplan.specs.Private.Once.{is_like, key_of, AreSeen, AreJobCounts};
 
 use crate::changes::wall_at;
 use crate::counts::date_of;
 use crate::days::{date_count, first_date, last_date};
+use crate::other_clock::shown_starts;
 use crate::plan::Plan;
 use crate::span::Span;
 use crate::start::JobStart;
@@ -62,26 +63,38 @@ enum Per {
 const LEAST_DATES: u64 = 2;
 
 impl Plan {
-    /// The jobs of the plan by the dates on which they start, on the clock of a table.
+    /// The jobs of the plan by the dates on which they start, on the clock of a table, whatever clock the plan is on.
     ///
     /// The only error is lack of memory.
     pub fn job_dates(&self, alloc: Global, table: &ClockTable) -> Result<JobDates, AllocError>
         ensures { IfOk result (AreJobDates (table_zone table.now) self.now.span self.now.starts.items) }
     {
-        let starts = self.starts.as_slice();
-        let dates = dates_of(table, self.span, starts);
-        let whole = whole_dates(table, self.span);
-        let firsts = first_ones(alloc, starts, Per::Date)?;
-        let jobs = first_ones(alloc, starts, Per::Plan)?;
-        let counts = job_counts(alloc, firsts.as_slice(), whole)?;
-        let daily = daily_jobs(alloc, jobs.as_slice(), &counts, count_of_dates(whole))?;
-        let rarer = rarer_starts(alloc, firsts.as_slice(), &counts, count_of_dates(whole))?;
-        Ok(JobDates {
-            dates,
-            daily,
-            rarer,
-        })
+        let starts = shown_starts(alloc, self.starts.as_slice(), table)?;
+        job_dates_of(alloc, starts.as_slice(), self.span, table)
     }
+}
+
+// The jobs of starts in a span by the dates, on the clock of a table, which shows their walls.
+fn job_dates_of(
+    alloc: Global,
+    starts: &[JobStart],
+    span: Span,
+    table: &ClockTable,
+) -> Result<JobDates, AllocError>
+    ensures { IfOk result (AreShownJobDates (table_zone table.now) span starts.now) }
+{
+    let dates = dates_of(table, span, starts);
+    let whole = whole_dates(table, span);
+    let firsts = first_ones(alloc, starts, Per::Date)?;
+    let jobs = first_ones(alloc, starts, Per::Plan)?;
+    let counts = job_counts(alloc, firsts.as_slice(), whole)?;
+    let daily = daily_jobs(alloc, jobs.as_slice(), &counts, count_of_dates(whole))?;
+    let rarer = rarer_starts(alloc, firsts.as_slice(), &counts, count_of_dates(whole))?;
+    Ok(JobDates {
+        dates,
+        daily,
+        rarer,
+    })
 }
 
 // The dates of a plan of these starts.

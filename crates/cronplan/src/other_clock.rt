@@ -1,8 +1,8 @@
 //! A plan on another clock.
-ghost use Rattle.std.specs.Prelude.{◌≡◌, IfOk, map};
+ghost use Rattle.std.specs.Prelude.{◌≡◌, IfOk};
 ghost use Rattle.std.specs.List.{All};
 ghost use Rattle.croner_base.specs.TableZone.{table_zone};
-ghost use Rattle.cronplan.specs.OtherClock.{shown_on, IsOnClock};
+ghost use Rattle.cronplan.specs.OtherClock.{shown_on, all_shown_on, IsOnClock};
 
 use crate::plan::Plan;
 use crate::start::{JobStart, wall_of};
@@ -25,12 +25,13 @@ impl Plan {
     }
 }
 
-fn shown_starts(
+/// Starts with what the clock of a table shows then. The only error is lack of memory.
+pub(crate) fn shown_starts(
     alloc: Global,
     starts: &[JobStart],
     table: &ClockTable,
 ) -> Result<Vec<JobStart>, AllocError>
-    ensures { IfOk result (λ shown. shown.items ≡ map (shown_on (table_zone table.now)) starts.now) }
+    ensures { IfOk result (λ shown. shown.items ≡ all_shown_on (table_zone table.now) starts.now) }
 {
     let mut shown = Vec::new(alloc);
     for start in starts {

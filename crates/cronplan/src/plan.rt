@@ -4,7 +4,7 @@ ghost use Rattle.std.specs.List.{All};
 ghost use Rattle.std.specs.List.Sorted.{IsSorted, IsSortedByKey};
 ghost use Rattle.std.specs.BTreeMap.{get};
 ghost use Rattle.std.specs.Ordering.{nat_cmp, int_cmp};
-ghost use Rattle.cronplan.specs.Counts.{starts_at};
+ghost use Rattle.cronplan.specs.Counts.{starts_at, HasNoZero};
 ghost use Rattle.cronplan.specs.Moments.{AreFullest};
 ghost use Rattle.cronplan.specs.Starts.{start_cmp, second_at, earlier_of, IsMerged, Merges};
 ghost use Rattle.cronplan.specs.Windows.{AreWindows, longest_cmp, seconds_in};
@@ -45,11 +45,12 @@ impl Plan {
         Plan { span, starts }
     }
 
-    /// How many starts there are at each second, in each hour or on each day that has one.
+    /// How many starts there are at each second, in each hour or on each day that has one. No count is 0.
     ///
     /// The only error is lack of memory.
     pub fn counts(&self, alloc: Global, unit: Unit) -> Result<BTreeMap<i64, u64>, AllocError>
-        ensures { IfOk result (λ m. (q : ℤ) → unwrap_or (get int_cmp m q) 0 ≡ starts_at unit q self.now.starts.items) }
+        ensures counts { IfOk result (λ m. (q : ℤ) → unwrap_or (get int_cmp m q) 0 ≡ starts_at unit q self.now.starts.items) }
+        ensures no_zero { IfOk result HasNoZero }
     {
         counts_by(alloc, self.starts.as_slice(), unit)
     }

@@ -1,5 +1,5 @@
 -- What a plan answers, as lines of text. Source: this crate's documentation.
-use Rattle.std.specs.Prelude.{◌≡◌, ◌==◌, ◌<◌, ◌||◌, ◌*◌, ℕ, suc, pos, Bool, true, false, List, [], ◌∷◌, ◌++◌, codes, length, map, slice_get, slice_index_or, Option, Some, None, if◌then◌else◌}
+use Rattle.std.specs.Prelude.{◌≡◌, ◌==◌, ◌<◌, nat_lt, ◌||◌, ◌*◌, ℕ, suc, pos, Bool, true, false, List, [], ◌∷◌, ◌++◌, codes, length, map, slice_get, slice_index_or, Option, Some, None, if◌then◌else◌}
 use Rattle.std.specs.Fmt.{decimal}
 use Rattle.std.specs.List.{All, flat_map}
 use Rattle.std.specs.List.Sorted.{IsSorted}
@@ -166,9 +166,13 @@ quoted_title title = codes " " ++ excerpt excerpt_characters title
 unfoldable pub job_name : List Job → ℕ → List ℕ
 job_name jobs k = label_at (labels_of jobs) k ++ quoted_title (title_at (titles_of jobs) k)
 
+-- a job has so many starts, or more: more than a plan keeps are not counted to the end
+abbrev pub or_more : ℕ → List ℕ
+or_more starts = if nat_lt most_starts starts then codes " or more" else []
+
 -- a job that starts too often, as a line: this, and how many starts it has
 unfoldable pub starts_line : ℕ → List ℕ
-starts_line starts = codes ", " ++ (starts_text starts ++ codes "\n")
+starts_line starts = codes ", " ++ (starts_text starts ++ (or_more starts ++ codes "\n"))
 
 unfoldable pub left_out_line : List Job → Frequent → List ℕ
 left_out_line jobs job = codes "left out, since it starts too often (--most-a-day): " ++ (job_name jobs job.job ++ starts_line job.starts)

@@ -21,7 +21,7 @@ mod week;
 pub use ahead::Ahead;
 pub use answers::{
     Questions, ShownMoment, ShownSet, ShownWindow, answers_text, busy_text, hour_counts,
-    is_at_edge, left_out_text, quiet_text, together_text,
+    is_at_edge, left_out_text, or_more, quiet_text, together_text,
 };
 pub use asked::{FileAsked, PlanAsked};
 pub use beside::{Beside, OtherClock, ShownTime};

@@ -1,5 +1,5 @@
 -- The listings of a job's starts and of a pattern's runs as those of a plan.
-use Rattle.std.proofs.Common.{◌≡◌, ℕ, ℤ, pos, zero, suc, ◌<◌, ◌<ℤ◌, ◌≤ℤ◌, ◌-ℤ◌, ◌⊎◌, inl, inr, true, false, List, [], ◌∷◌, ◌++◌, length, get_or, map, refl, sym, ap, subst, lit<, arith, Option, Some}
+use Rattle.std.proofs.Common.{◌≡◌, ◌∙◌, ℕ, ℤ, pos, zero, suc, ◌-◌, ◌<◌, ◌<ℤ◌, ◌≤ℤ◌, ◌-ℤ◌, ◌⊎◌, inl, inr, true, false, List, [], ◌∷◌, ◌++◌, length, get_or, map, refl, sym, ap, subst, lit<, arith, Option, Some}
 use Rattle.std.specs.Prelude.{slice_get}
 use Rattle.std.proofs.lemmas.Bool.{false≢true}
 use Rattle.std.proofs.lemmas.Int.{ints, by_lt_z}
@@ -29,17 +29,30 @@ use Rattle.crontab_runs.specs.Starts.{Starts}
 use Rattle.crontab_runs.specs.Views.{cron_job_of}
 use Rattle.cronplan_jobs.specs.declared.listing.Schedule.TheVariants as schedules
 use Rattle.cronplan.specs.declared.span.Span.{Span}
+use Rattle.cronplan.specs.declared.start.JobStart.{JobStart}
 use Rattle.cronplan_jobs.specs.Listed.{IsStartIn, ListsJob}
 use Rattle.cronplan_jobs.specs.Private.Placed.{placed, placed_run, IsCronEnd, IsPatternEnd}
-use Rattle.cronplan.specs.Starts.{seconds_of, most_starts}
+use Rattle.cronplan.specs.Starts.{seconds_of, second_at, most_starts}
 use Rattle.cronplan.proofs.FilteredLists.{All-from_map}
 use Rattle.cronplan.proofs.SpanSeconds.{Spans, held_in}
 
--- what stands at a place is among them
-pub among : {X : Type 0} (f : X → ℤ) (xs : List X) (k : ℕ) (x : X) → slice_get xs k ≡ Some x → Contains (map f xs) (f x)
-among f [] k x e = cc
-among f (y ∷ ys) zero x e = let same : y ≡ x = cc in subst (λ z. Contains (f y ∷ map f ys) (f z)) same (0, omega arith, refl)
-among f (y ∷ ys) (suc k) x e = Contains-append_right (f y ∷ []) (map f ys) (f x) (among f ys k x e)
+-- the second of what stands at a place
+pub at_place : {X : Type 0} (f : X → ℤ) (xs : List X) (k : ℕ) (x : X) → slice_get xs k ≡ Some x → slice_get (map f xs) k ≡ Some (f x)
+at_place f [] k x e = cc
+at_place f (y ∷ ys) zero x e = let same : y ≡ x = cc in ap (λ z. Some (f z)) same
+at_place f (y ∷ ys) (suc k) x e = at_place f ys k x e
+
+-- of starts that have the seconds of others, the one at a place
+second_placed : {X : Type 0} (f : X → JobStart) (g : X → ℤ) → ((x : X) → (f x).second ≡ g x) → (xs : List X) (k : ℕ) → second_at (map f xs) k ≡ slice_get (map g xs) k
+second_placed f g same [] k = refl
+second_placed f g same (x ∷ xs) zero = ap Some (same x)
+second_placed f g same (x ∷ xs) (suc k) = second_placed f g same xs k
+
+-- a second at a place is among them
+has_place : (is : List ℤ) (k : ℕ) (i : ℤ) → slice_get is k ≡ Some i → Contains is i
+has_place [] k i e = cc
+has_place (j ∷ js) zero i e = let same : j ≡ i = cc in (0, omega arith, same)
+has_place (j ∷ js) (suc k) i e = Contains-append_right (j ∷ []) js i (has_place js k i e)
 
 module _ (job : CrontabJob) (time : Moment) (span : Span) (place : ℕ) (after : time.instant ≡ span.first -ℤ pos 1) where
   abbrev until : Option ℤ
@@ -83,7 +96,7 @@ module _ (job : CrontabJob) (time : Moment) (span : Span) (place : ℕ) (after :
   none-left-out starts ends.Full limit kept some h is i from before at in_span =
       elim is [
         | inl none ↦ absurd (omega (arith, none, h.ended, some))
-        | inr has ↦ h.begins.complete i kept (omega (arith, ints, after, from), at) has (omega (arith, ints, before))
+        | inr last_is ↦ h.begins.complete i kept (omega (arith, ints, after, from), at) (has_place (seconds starts) (length starts - 1) kept last_is) (omega (arith, ints, before))
       ]
   none-left-out starts (ends.Past next) limit kept some h is i from before at in_span =
       let to : i <ℤ span.end = subst (λ (e : ℤ). i <ℤ e) is before in
@@ -99,7 +112,8 @@ module _ (job : CrontabJob) (time : Moment) (span : Span) (place : ℕ) (after :
   kept-within starts ends.Full limit kept some h is =
       elim is [
         | inl none ↦ absurd (omega (arith, none, h.ended, some))
-        | inr has ↦ let by : kept ≤ℤ (span.end -ℤ pos 1) = All-contains (λ t. t ≤ℤ (span.end -ℤ pos 1)) (seconds starts) kept (All-map (λ t. t ≤ℤ (span.end -ℤ pos 1)) (λ (s : Start). s.second) starts h.by) has in
+        | inr last_is ↦ let has : Contains (seconds starts) kept = has_place (seconds starts) (length starts - 1) kept last_is in
+            let by : kept ≤ℤ (span.end -ℤ pos 1) = All-contains (λ t. t ≤ℤ (span.end -ℤ pos 1)) (seconds starts) kept (All-map (λ t. t ≤ℤ (span.end -ℤ pos 1)) (λ (s : Start). s.second) starts h.by) has in
             omega (arith, ints, by)
       ]
   kept-within starts (ends.Past next) limit kept some h is = omega (arith, ints, is)
@@ -109,16 +123,23 @@ module _ (job : CrontabJob) (time : Moment) (span : Span) (place : ℕ) (after :
   kept-from starts ends.Full limit kept some order h is =
       elim is [
         | inl none ↦ absurd (omega (arith, none, h.ended, some))
-        | inr has ↦ let past : time.instant <ℤ kept = (All-contains (IsLeft (cron_job_of job) time) (seconds starts) kept h.begins.counts has).0 in omega (arith, ints, after, past)
+        | inr last_is ↦ let has : Contains (seconds starts) kept = has_place (seconds starts) (length starts - 1) kept last_is in
+            let past : time.instant <ℤ kept = (All-contains (IsLeft (cron_job_of job) time) (seconds starts) kept h.begins.counts has).0 in omega (arith, ints, after, past)
       ]
   kept-from starts (ends.Past next) limit kept some order h is = omega (arith, ints, is, order)
   kept-from starts ends.Over limit kept some order h is = omega (arith, ints, is, order)
 
-  is-whole : (starts : List Start) (end : StartsEnd) (kept : ℤ) → ListsStarts (cron_job_of job) time until 100_001 starts end → IsCronEnd starts end span kept
-      → (kept ≡ span.end) ⊎ (most_starts < length (map (placed time.zone place) starts))
-  is-whole starts ends.Full kept h is = inr (omega (arith, h.ended, length-map starts (placed time.zone place)))
-  is-whole starts (ends.Past next) kept h is = inl is
-  is-whole starts ends.Over kept h is = inl is
+  is-cut : (starts : List Start) (end : StartsEnd) (kept : ℤ) → ListsStarts (cron_job_of job) time until 100_001 starts end → IsCronEnd starts end span kept
+      → (kept ≡ span.end) ⊎ (second_at (map (placed time.zone place) starts) most_starts ≡ Some kept)
+  is-cut starts ends.Full kept h is =
+      elim is [
+        | inl none ↦ absurd (omega (arith, none, h.ended))
+        | inr last_is ↦ let at : length starts - 1 ≡ most_starts = omega (arith, h.ended) in
+            inr (second_placed (placed time.zone place) (λ (s : Start). s.second) (λ s. refl) starts most_starts
+            ∙ subst (λ (k : ℕ). slice_get (seconds starts) k ≡ Some kept) at last_is)
+      ]
+  is-cut starts (ends.Past next) kept h is = inl is
+  is-cut starts ends.Over kept h is = inl is
 
   pub cron_lists : (starts : List Start) (end : StartsEnd) (kept : ℤ) → span.first ≤ℤ span.end → ListsStarts (cron_job_of job) time until 100_001 starts end → IsCronEnd starts end span kept
       → ListsJob (schedules.Crontab job) time.zone span place (map (placed time.zone place) starts) kept
@@ -129,7 +150,7 @@ module _ (job : CrontabJob) (time : Moment) (span : Span) (place : ℕ) (after :
         (none-left-out starts end 100_001 kept (lit< tt) h is i from before (n, some, at) in_span);
     from = kept-from starts end 100_001 kept (lit< tt) order h is;
     within = kept-within starts end 100_001 kept (lit< tt) h is;
-    whole = is-whole starts end kept h is;
+    cut = is-cut starts end kept h is;
     most = omega (arith, h.most, length-map starts (placed time.zone place));
   }
 
@@ -180,7 +201,7 @@ module _ (cron : Cron) (after : TableTime) (span : Span) (place : ℕ) (at : aft
   no-run-left-out times listing.Full new limit kept some h not is i from before run in_span =
       elim is [
         | inl none ↦ absurd (omega (arith, none, h.ended, some, length-map times (λ (t : TableTime). t.second)))
-        | inr has ↦ h.begins.complete i kept (left-run i from run) has (omega (arith, ints, before))
+        | inr last_is ↦ h.begins.complete i kept (left-run i from run) (has_place (run_seconds times) (length times - 1) kept last_is) (omega (arith, ints, before))
       ]
   no-run-left-out times (listing.Past next) new limit kept some h not is i from before run in_span =
       let to : i <ℤ span.end = subst (λ (e : ℤ). i <ℤ e) is before in
@@ -199,7 +220,8 @@ module _ (cron : Cron) (after : TableTime) (span : Span) (place : ℕ) (at : aft
   run-kept-within times listing.Full new limit kept some h is =
       elim is [
         | inl none ↦ absurd (omega (arith, none, h.ended, some, length-map times (λ (t : TableTime). t.second)))
-        | inr has ↦ let by : kept ≤ℤ (span.end -ℤ pos 1) = All-contains (λ t. t ≤ℤ (span.end -ℤ pos 1)) (run_seconds times) kept h.by has in omega (arith, ints, by)
+        | inr last_is ↦ let by : kept ≤ℤ (span.end -ℤ pos 1) = All-contains (λ t. t ≤ℤ (span.end -ℤ pos 1)) (run_seconds times) kept h.by (has_place (run_seconds times) (length times - 1) kept last_is) in
+            omega (arith, ints, by)
       ]
   run-kept-within times (listing.Past next) new limit kept some h is = omega (arith, ints, is)
   run-kept-within times listing.Over new limit kept some h is = omega (arith, ints, is)
@@ -209,18 +231,25 @@ module _ (cron : Cron) (after : TableTime) (span : Span) (place : ℕ) (at : aft
   run-kept-from times listing.Full new limit kept some order h is =
       elim is [
         | inl none ↦ absurd (omega (arith, none, h.ended, some, length-map times (λ (t : TableTime). t.second)))
-        | inr has ↦ let past : after.second <ℤ kept = (run-left kept (All-contains (IsLeftOfRuns begin) (run_seconds times) kept h.begins.counts has)).0 in omega (arith, ints, at, past)
+        | inr last_is ↦ let has : Contains (run_seconds times) kept = has_place (run_seconds times) (length times - 1) kept last_is in
+            let past : after.second <ℤ kept = (run-left kept (All-contains (IsLeftOfRuns begin) (run_seconds times) kept h.begins.counts has)).0 in omega (arith, ints, at, past)
       ]
   run-kept-from times (listing.Past next) new limit kept some order h is = omega (arith, ints, is, order)
   run-kept-from times listing.Over new limit kept some order h is = omega (arith, ints, is, order)
   run-kept-from times listing.Refused new limit kept some order h is = omega (arith, ints, is, order)
 
-  runs-whole : (times : List TableTime) (end : ListingEnd) (new : Standing) (kept : ℤ) → ListsUntil begin new last 100_001 times end → IsPatternEnd times end span kept
-      → (kept ≡ span.end) ⊎ (most_starts < length (map (placed_run place) times))
-  runs-whole times listing.Full new kept h is = inr (omega (arith, h.ended, length-map times (placed_run place), length-map times (λ (t : TableTime). t.second)))
-  runs-whole times (listing.Past next) new kept h is = inl is
-  runs-whole times listing.Over new kept h is = inl is
-  runs-whole times listing.Refused new kept h is = inl is
+  runs-cut : (times : List TableTime) (end : ListingEnd) (new : Standing) (kept : ℤ) → ListsUntil begin new last 100_001 times end → IsPatternEnd times end span kept
+      → (kept ≡ span.end) ⊎ (second_at (map (placed_run place) times) most_starts ≡ Some kept)
+  runs-cut times listing.Full new kept h is =
+      elim is [
+        | inl none ↦ absurd (omega (arith, none, h.ended, length-map times (λ (t : TableTime). t.second)))
+        | inr last_is ↦ let at : length times - 1 ≡ most_starts = omega (arith, h.ended, length-map times (λ (t : TableTime). t.second)) in
+            inr (second_placed (placed_run place) (λ (t : TableTime). t.second) (λ t. refl) times most_starts
+            ∙ subst (λ (k : ℕ). slice_get (run_seconds times) k ≡ Some kept) at last_is)
+      ]
+  runs-cut times (listing.Past next) new kept h is = inl is
+  runs-cut times listing.Over new kept h is = inl is
+  runs-cut times listing.Refused new kept h is = inl is
 
   pub pattern_lists : (times : List TableTime) (end : ListingEnd) (new : Standing) (kept : ℤ) → span.first ≤ℤ span.end → ListsUntil begin new last 100_001 times end → ¬ (end ≡ listing.Refused) → IsPatternEnd times end span kept
       → ListsJob (schedules.Pattern cron) zone span place (map (placed_run place) times) kept
@@ -231,6 +260,6 @@ module _ (cron : Cron) (after : TableTime) (span : Span) (place : ℕ) (at : aft
         (no-run-left-out times end new 100_001 kept (lit< tt) h not is i from before runs.0 in_span);
     from = run-kept-from times end new 100_001 kept (lit< tt) order h is;
     within = run-kept-within times end new 100_001 kept (lit< tt) h is;
-    whole = runs-whole times end new kept h is;
+    cut = runs-cut times end new kept h is;
     most = omega (arith, h.most, length-map times (placed_run place));
   }

@@ -1,3 +1,4 @@
 pub mod Examples
 pub mod GatheredJobs
 pub mod JobListings
+pub mod ServedSpans

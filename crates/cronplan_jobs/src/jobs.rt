@@ -2,7 +2,7 @@
 ghost use Rattle.std.specs.Prelude.{◌≡◌, ◌≤◌, ◌^◌, ◌↔◌, ◌++◌, IsTrue, IfErr, IfOk, OnOk, length};
 ghost use Rattle.croner_base.specs.TableZone.{table_zone};
 ghost use Rattle.cronplan_jobs.specs.Jobs.{IsOver, IsPlanOf};
-ghost use Rattle.cronplan_jobs.specs.Listed.{IsNotListed};
+ghost use Rattle.cronplan_jobs.specs.Listed.{IsNotListed, IsServed};
 ghost use Rattle.cronplan_jobs.specs.Private.Gathered.{AddsJob, Names, Shows};
 
 use crate::listing::{Schedule, starts_in};
@@ -25,8 +25,11 @@ struct Gathering {
 /// The plan of jobs in a span, on the clock of a table: the starts of the jobs that are shown, and the jobs that aren't. A job isn't shown
 /// if it has more than `most_a_day` starts on some day that the clock shows. If `most_a_day` is `None`, each job is shown.
 ///
-/// A job's place is its index among the jobs. The error is `OutOfMemory`. It would be `InvalidTime` or `InvalidDate` if the clock refused
-/// a second or a date while the runs of a pattern are searched, which doesn't happen in the years that are searched.
+/// A job's place is its index among the jobs. If there are more starts than a plan keeps, the plan ends earlier than the span: with the
+/// first start too many, of one job or of all together.
+///
+/// The error is `OutOfMemory`. From a span on at whose begin the clock shows a year before -9997 or after 9997 it can also be `InvalidTime`
+/// or `InvalidDate`: the clock refuses a second or a date of a search.
 ///
 /// ```
 /// let span = Span::new(1_806_188_400, 1_806_793_200); // a week from 2027-03-28T00:00:00 in Paris
@@ -41,6 +44,7 @@ pub fn plan_of(
 ) -> Result<(Plan, Vec<Frequent>), CronError>
     ensures plan { IfOk result (λ r. IsPlanOf (table_zone table.now) span most_a_day jobs.now r.0.starts.items r.0.span r.1.items) }
     ensures err { IfErr result IsNotListed }
+    ensures memory { IsServed (table_zone table.now) span → IfErr result (λ e. e ≡ CronError.OutOfMemory) }
 {
     let mut gathering = Gathering {
         shown: Vec::new(alloc),
@@ -79,6 +83,7 @@ fn add_job(
 ) -> Result<(), CronError>
     ensures adds { OnOk result (AddsJob (table_zone table.now) span most_a_day place schedule.now gathering.old gathering.new) }
     ensures err { IfErr result IsNotListed }
+    ensures memory { IsServed (table_zone table.now) span → IfErr result (λ e. e ≡ CronError.OutOfMemory) }
 {
     let (starts, end) = starts_in(alloc, schedule, table, span, place)?;
     if is_over(alloc, starts.as_slice(), most_a_day)? {

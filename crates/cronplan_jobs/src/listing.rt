@@ -9,7 +9,8 @@ ghost use Rattle.croner_base.specs.declared.time.table.TableTime.{TableTime};
 ghost use Rattle.croner.specs.declared.job.Cron.{Cron};
 ghost use Rattle.croner.specs.iterator.Listing.{standing_of, new_standing};
 ghost use Rattle.croner.specs.Views.{job_of};
-ghost use Rattle.cronplan_jobs.specs.Listed.{IsNotListed, ListsJob};
+ghost use Rattle.croner.specs.search.Premises.{IsSearchable};
+ghost use Rattle.cronplan_jobs.specs.Listed.{IsNotListed, IsServed, ListsJob};
 ghost use Rattle.cronplan_jobs.specs.Private.Placed.{placed, placed_run, IsCronEnd, IsPatternEnd};
 
 use croner::errors::CronError;
@@ -32,11 +33,11 @@ pub enum Schedule {
 /// The most starts that are listed for one job: one more than a plan keeps.
 const MOST_LISTED: u32 = MOST_STARTS as u32 + 1;
 
-/// The starts of a job in a span, in order, and the second up to which none is left out. That is the end of the span, or the second of
-/// the last start where there are more than a plan keeps.
+/// The starts of a job in a span, in order, and the second up to which none is left out. That is the end of the span; or, if there are more
+/// starts than a plan keeps, the second of the first start too many, which is the last one here.
 ///
-/// It takes memory for `MOST_STARTS` + 1 starts. The error is `OutOfMemory`. It would be `InvalidTime` or `InvalidDate` if the clock
-/// refused a second or a date while the runs of a pattern are searched, which doesn't happen in the years that are searched.
+/// It takes memory for `MOST_STARTS` + 1 starts. The error is `OutOfMemory`. From a span on at whose begin the clock shows a year before -9997
+/// or after 9997 it can also be `InvalidTime` or `InvalidDate`: the clock refuses a second or a date of the search.
 pub(crate) fn starts_in(
     alloc: Global,
     schedule: &Schedule,
@@ -46,6 +47,7 @@ pub(crate) fn starts_in(
 ) -> Result<(Vec<JobStart>, i64), CronError>
     ensures lists { IfOk result (λ r. ListsJob schedule.now (table_zone table.now) span place r.0.items r.1) }
     ensures err { IfErr result IsNotListed }
+    ensures memory { IsServed (table_zone table.now) span → IfErr result (λ e. e ≡ CronError.OutOfMemory) }
 {
     let after = second_before(table, span);
     match schedule {
@@ -75,7 +77,7 @@ fn cron_starts(
 ) -> Result<(Vec<JobStart>, i64), CronError>
     requires { after.second ≡ span.first -ℤ pos 1 }
     ensures lists { IfOk result (λ r. ListsJob (Schedule.Crontab job.now) (table_zone after.entry.table.now) span place r.0.items r.1) }
-    ensures err { IfErr result IsNotListed }
+    ensures err { IfErr result (λ e. e ≡ CronError.OutOfMemory) }
 {
     let (starts, ending) = next_starts_until(alloc, job, after, span.until(), MOST_LISTED)?;
     let end = cron_end(starts.as_slice(), ending, span);
@@ -127,6 +129,7 @@ fn placed_start(time: TableTime<'_>, start: Start, place: usize) -> JobStart
 }
 
 // The runs of a pattern.
+#[tactic(auto, using(crate::proofs::ServedSpans::served))]
 fn pattern_starts(
     alloc: Global,
     cron: &Cron,
@@ -137,6 +140,7 @@ fn pattern_starts(
     requires { after.second ≡ span.first -ℤ pos 1 }
     ensures lists { IfOk result (λ r. ListsJob (Schedule.Pattern cron.now) (table_zone after.entry.table.now) span place r.0.items r.1) }
     ensures err { IfErr result IsNotListed }
+    ensures memory { IsServed (table_zone after.entry.table.now) span → IfErr result (λ e. e ≡ CronError.OutOfMemory) }
 {
     let mut runs = cron.iter_after(after)?;
     runs_from(alloc, &mut runs, span, place)
@@ -153,6 +157,7 @@ fn runs_from(
         → standing_of table_moment runs.old ≡ new_standing (job_of cron) (table_moment after) false Direction.Forward
         → IfOk result (λ r. ListsJob (Schedule.Pattern cron) (table_zone after.table.now) span place r.0.items r.1) }
     ensures err { IfErr result IsNotListed }
+    ensures memory { IsSearchable (standing_of table_moment runs.old).position → IfErr result (λ e. e ≡ CronError.OutOfMemory) }
 {
     let (times, ending) = next_runs_until(alloc, runs, span.until(), MOST_LISTED)?;
     if let ListingEnd::Refused = ending {

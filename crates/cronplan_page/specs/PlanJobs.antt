@@ -5,6 +5,7 @@ use Rattle.std.specs.List.{flat_map}
 use Rattle.cronplan.specs.declared.frequent.Frequent.{Frequent}
 use Rattle.cronplan_forms.specs.declared.job.Job.{Job}
 use Rattle.cronplan_forms.specs.Calendars.{times_text}
+use Rattle.cronplan_forms.specs.Answers.{or_more}
 use Rattle.cronplan_forms.specs.Frequents.{frequent_count}
 use Rattle.cronplan_page.specs.declared.about.Warnings.{Warnings}
 use Rattle.cronplan_page.specs.declared.markup.Line.{Line}
@@ -23,7 +24,7 @@ use Rattle.cronplan_page.specs.Words.{title_text, many_text, time_text}
 unfoldable pub frequent_line : List Job → Frequent → List ℕ
 frequent_line jobs f =
     piece_text pieces.Item
-    ++ (title_text jobs f.job ++ (piece_text pieces.ItemRest ++ (many_text f.starts (codes "start") ++ piece_text pieces.ItemEnd)))
+    ++ (title_text jobs f.job ++ (piece_text pieces.ItemRest ++ (many_text f.starts (codes "start") ++ (or_more f.starts ++ piece_text pieces.ItemEnd))))
 
 -- all of them
 unfoldable pub frequent_lines : List Job → List Frequent → List ℕ

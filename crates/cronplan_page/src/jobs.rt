@@ -17,7 +17,7 @@ use crate::time_lines::{count_at, push_time_line};
 use crate::timed::TimedStart;
 use crate::words::{push_many, push_time, push_times, push_title};
 use cronplan::Frequent;
-use cronplan_forms::{Job, frequent_count};
+use cronplan_forms::{Job, frequent_count, or_more};
 use std::alloc::{AllocError, Global};
 
 /// The most starts of a job that the table lists.
@@ -68,6 +68,7 @@ fn push_frequent_line(out: &mut String, jobs: &[Job<'_>], job: Frequent) -> Resu
     push_title(out, jobs, job.job)?;
     push_piece(out, Piece::ItemRest)?;
     push_many(out, job.starts, "start")?;
+    out.push_str(or_more(job.starts))?;
     push_piece(out, Piece::ItemEnd)
 }
 

@@ -24,8 +24,8 @@ pub fn sets_zone(text: &[u8]) -> bool
     name == "CRON_TZ".as_bytes() || name == "TZ".as_bytes()
 }
 
-// The name, without its quotes.
-fn setting_name(text: &[u8]) -> &[u8]
+/// The name that a setting begins with, without its quotes.
+pub fn setting_name(text: &[u8]) -> &[u8]
     ensures { result.now ≡ setting_name text.now }
 {
     match text {
@@ -42,8 +42,8 @@ fn setting_name(text: &[u8]) -> &[u8]
     }
 }
 
-// The bytes that cron looks at.
-fn start_of(text: &[u8]) -> &[u8]
+/// The bytes of a line at which cron looks for a setting.
+pub fn start_of(text: &[u8]) -> &[u8]
     ensures { result.now ≡ take setting_length text.now }
 {
     if text.len() <= SETTING_LENGTH {
@@ -134,8 +134,8 @@ fn value_text(after: Option<&[u8]>) -> &[u8]
     }
 }
 
-// A setting's value, with its quotes.
-fn setting_value(text: &[u8]) -> &[u8]
+/// A setting's value, with its quotes.
+pub fn setting_value(text: &[u8]) -> &[u8]
     ensures { result.now ≡ setting_value text.now }
 {
     value_text(text_after_name(start_of(text)))

@@ -1,7 +1,7 @@
 //! What the words of a call ask of a plan, and the options for it.
 
 use super::options::{add, flag, value};
-use super::{NoCall, Verb, told_of_misuse};
+use super::{NoCall, Verb, told_by_text, told_of_misuse};
 use clap::{Arg, ArgMatches, Command};
 use cronplan_forms::{FileAsked, PlanAsked, Questions, Signs};
 use jiff_fmt::friendly::parse_unsigned_duration;
@@ -13,11 +13,20 @@ const MOST_A_DAY: u64 = 12;
 /// The option for that.
 const MOST_A_DAY_OPTION: &str = "--most-a-day <N|all>";
 
+/// The headings of the options that ask for something in place of the list.
+const ANSWERS: &str = "In place of the list";
+
+const FILES: &str = "As a file in place of the list";
+
 /// The word for jobs that start however often.
 const ALL: &str = "all";
 
 /// The most moments that are asked for.
 const MOST_MOMENTS: usize = 1_000;
+
+/// What is told where the name of a file is given, and no form.
+const OUTPUT_OF_NOTHING: &str =
+    "error: --output needs a form of the file: write --html, --ics or --json with it\n";
 
 /// What is asked of a plan, with [`Verb::Plan`]; nothing with another verb. The signs of a picture are
 /// digits.
@@ -86,12 +95,7 @@ fn file_of_plan(alloc: Global, matches: &ArgMatches<'_>) -> Result<Option<FileAs
 // No file is asked for: then a word that is of a file is refused.
 fn no_file(alloc: Global, matches: &ArgMatches<'_>) -> Result<Option<FileAsked>, NoCall> {
     match (output(matches), title(matches)) {
-        (Some(name), _) => Err(told_of_misuse(
-            alloc,
-            "--output <FILE>",
-            name,
-            "it goes with --html, --ics or --json",
-        )),
+        (Some(_), _) => Err(told_by_text(String::from_str(alloc, OUTPUT_OF_NOTHING))),
         (None, Some(text)) => Err(told_of_misuse(
             alloc,
             "--title <TEXT>",
@@ -161,9 +165,11 @@ pub(super) fn with_planning<'w>(
     alloc: Global,
     command: Command<'w>,
 ) -> Result<Command<'w>, AllocError> {
-    let command = command.arg(flag(alloc, "commands").help(
-        "Shows the beginning of each command after the title of its job; commands may hold passwords",
-    ))?;
+    let command = command.arg(
+        flag(alloc, "commands").hide_short_help(true).help(
+            "Show the beginning of each command after the title of its job.\nCommands may hold passwords",
+        ),
+    )?;
     with_questions(alloc, command)
 }
 
@@ -172,45 +178,55 @@ fn with_questions<'w>(alloc: Global, command: Command<'w>) -> Result<Command<'w>
     let command = add(
         command,
         flag(alloc, "week")
+            .help_heading(ANSWERS)
             .help(
-                "In place of the list: a picture, a row a day and a sign an hour; up to --until, else seven days",
+                "Draw a picture, a row a day and a sign an hour, up to --until or else\nof seven days",
             )
             .conflicts_with("runs"),
     )?;
     let command = add(
         command,
         flag(alloc, "month")
+            .help_heading(ANSWERS)
             .help(
-                "In place of the list: a calendar's grid of titles; up to --until, else to the end of the month",
+                "Draw a calendar's grid of titles, up to --until or else to the end of\nthe month",
             )
             .conflicts_with("runs"),
     )?;
     let command = add(
         command,
         value(alloc, "quiet", "LENGTH")
-            .help(
-                "In place of the list: when nothing starts for so long, as 45m or 8h, the longest first",
-            )
+            .help_heading(ANSWERS)
+            .help("List when nothing starts for this long, such as 45m or 8h, the longest\nfirst")
             .conflicts_with("runs"),
     )?;
     let command = add(
         command,
         value(alloc, "busy", "N")
+            .help_heading(ANSWERS)
+            .hide_short_help(true)
             .help(
-                "In place of the list: the moments with most starts, 1 to 1000, and the starts by hour",
+                "List the moments with most starts, 1 to 1000 of them, and the starts\nof each hour",
             )
             .conflicts_with("runs"),
     )?;
     let command = add(
         command,
         flag(alloc, "together")
-            .help("In place of the list: which jobs start at one moment, how often, and when first")
+            .help_heading(ANSWERS)
+            .hide_short_help(true)
+            .help("List which jobs start at the same moment, how often, and when first")
             .conflicts_with("runs"),
     )?;
     let command = with_files(alloc, command)?;
-    command.arg(value(alloc, "most-a-day", "N|all").help(
-        "Leaves jobs with more starts on a day out of these answers, and names them; else 12",
-    ))
+    command.arg(
+        value(alloc, "most-a-day", "N|all")
+            .help_heading(ANSWERS)
+            .hide_short_help(true)
+            .help(
+                "Leave out jobs that start more often on a day, and name them, also in\na file; without it the number is 12",
+            ),
+    )
 }
 
 // With what is asked of a plan as a file.
@@ -220,14 +236,20 @@ fn with_files<'w>(alloc: Global, command: Command<'w>) -> Result<Command<'w>, Al
     let command = add(command, json(alloc))?;
     let command = add(command, event_length(alloc))?;
     let command = add(command, name(alloc))?;
-    command.arg(value(alloc, "output", "FILE").help(
-        "With --html, --ics or --json: writes it to this file, whole or not at all, and not to the output",
-    ))
+    command.arg(
+        value(alloc, "output", "FILE").help_heading(FILES).help(
+            "Write the page, calendar or object to this file, whole or not at all",
+        ),
+    )
 }
 
 fn event_length<'w>(alloc: Global) -> Result<Arg<'w>, AllocError> {
     let arg = value(alloc, "lasts", "LENGTH")
-        .help("With --ics: how long each event lasts, as 30m; else they tell no end")
+        .help_heading(FILES)
+        .hide_short_help(true)
+        .help(
+            "Let each event of the calendar last this long, such as 30m; without it\nevents have no end",
+        )
         .requires_arg("ics")?;
     option_alone(arg)?
         .conflicts_with("html")?
@@ -236,30 +258,33 @@ fn event_length<'w>(alloc: Global) -> Result<Arg<'w>, AllocError> {
 
 fn name<'w>(alloc: Global) -> Result<Arg<'w>, AllocError> {
     value(alloc, "title", "TEXT")
-        .help(
-            "With --html or --ics: what the page or the calendar is called; else 'What cron starts'",
-        )
+        .help_heading(FILES)
+        .hide_short_help(true)
+        .help("Use this title for the page or calendar, in place of 'What cron\nstarts'")
         .conflicts_with("json")
 }
 
 fn calendar<'w>(alloc: Global) -> Result<Arg<'w>, AllocError> {
-    let arg = flag(alloc, "ics").help(
-        "In place of the list: a calendar (RFC 5545), an event for each start, 2000 at most",
+    let arg = flag(alloc, "ics").help_heading(FILES).help(
+        "Write a calendar (RFC 5545) with an event for each start, 2000 at most",
     );
     option_alone(arg)?.conflicts_with("show-zone")
 }
 
 fn page<'w>(alloc: Global) -> Result<Arg<'w>, AllocError> {
-    let arg = flag(alloc, "html").help(
-        "In place of the list: a page that shows all of this, one file without a script",
+    let arg = flag(alloc, "html").help_heading(FILES).help(
+        "Write a page that shows all of this, one file without a script",
     );
     option_alone(arg)?.conflicts_with("ics")
 }
 
 fn json<'w>(alloc: Global) -> Result<Arg<'w>, AllocError> {
-    let arg = flag(alloc, "json").help(
-        "In place of the list: one object with the jobs, the moments, the quiet windows and the counts",
-    );
+    let arg = flag(alloc, "json")
+        .help_heading(FILES)
+        .hide_short_help(true)
+        .help(
+            "Write one JSON object with the jobs, the moments, the quiet windows and\nthe counts",
+        );
     option_alone(arg)?
         .conflicts_with("ics")?
         .conflicts_with("html")

@@ -10,7 +10,7 @@ use croner::parser::{
     Hint, PatternFault, PatternField, Seconds, SignHint, Suggestion, TextHint, Year,
 };
 use crontab::bytes::{Kind, begins_with, cut, rest_of};
-use crontab::line::Fault;
+use crontab::line::{Fault, words_of};
 use std::alloc::{AllocError, Global};
 use std::fmt;
 
@@ -60,7 +60,7 @@ fn push_hint_of_field(
     }
     push_part(text, field, part)?;
     if let Some(found) = fault_in(alloc, fault, part)? {
-        if push_expected(text, &found.expected)? {
+        if push_expected(text, &found.expected, days_without_star(fault, line))? {
             return Ok(());
         }
     }
@@ -337,11 +337,17 @@ fn pattern_of(alloc: Global, fault: Fault, part: &str) -> Result<String, AllocEr
 }
 
 // Puts after a text what was expected, where it says more than which values the field takes, and holds for cron.
-fn push_expected(text: &mut String, expected: &Expected) -> Result<bool, AllocError> {
+// `days` are the values of the field in place of a star, if a star would change the meaning.
+fn push_expected(
+    text: &mut String,
+    expected: &Expected,
+    days: Option<&'static str>,
+) -> Result<bool, AllocError> {
     match expected {
         Expected::Step(ExpectedStep::RangeBefore { suggestion }) => {
             let stepped = Stepped {
                 suggestion: *suggestion,
+                days,
             };
             write!(text, ": a step may only follow * or a range{stepped}")?;
         }
@@ -388,17 +394,31 @@ fn holds_for_cron(hint: Hint) -> bool {
     )
 }
 
+// The values of a day field at fault as a range, if a star there would change the meaning: the other day field doesn't begin with one, so
+// that a day then has to match both.
+fn days_without_star(fault: Fault, line: &[u8]) -> Option<&'static str> {
+    let (_, content) = cut(line, Kind::Blank);
+    let words = words_of(content);
+    match fault {
+        Fault::Days if !begins_with(words.weekdays, b'*') => Some("1-31"),
+        Fault::Weekdays if !begins_with(words.days, b'*') => Some("0-6"),
+        _ => None,
+    }
+}
+
 // What to write in place of a step after a number; where nothing says the same, an example.
 #[derive(Clone, Copy)]
 struct Stepped {
     suggestion: Suggestion,
+    days: Option<&'static str>,
 }
 
 impl fmt::Display for Stepped {
     fn fmt<W: fmt::Write>(&self, f: &mut fmt::Formatter<W>) -> fmt::Result {
-        match self.suggestion {
-            Suggestion::None => f.write_str(": write */15 or 5-59/15"),
-            suggestion => write!(f, "{suggestion}"),
+        match (self.suggestion, self.days) {
+            (Suggestion::None, _) => f.write_str(": write */15 or 5-59/15"),
+            (Suggestion::StarStep { step }, Some(days)) => write!(f, ": write {days}/{step}"),
+            (suggestion, _) => write!(f, "{suggestion}"),
         }
     }
 }

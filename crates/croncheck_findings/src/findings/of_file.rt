@@ -1,17 +1,24 @@
 //! What is found of a file as a whole.
 ghost use Rattle.std.specs.Prelude.{◌≡◌, [], ◌∷◌, ◌++◌, codes, IfOk, OnOk};
 ghost use Rattle.croncheck_report.specs.FileSeen.{file_seen};
-ghost use Rattle.croncheck_findings.specs.Findings.{finding_said, findings_said, reason, said_if, said_of_unfit, findings_of_crontab, findings_of_lines, file_name, findings_of_file, last_line};
+ghost use Rattle.croncheck_findings.specs.Findings.{finding_said, findings_said, reason, said_if, said_of_unfit, findings_of_crontab, findings_of_lines, name_said, file_name, misnamed, findings_of_read, findings_of_file, last_line};
 
 use super::{Extent, Finding};
 use croncheck_files::fitness::Unfit;
 use croncheck_output::severity::Severity;
-use croncheck_report::file_seen::{FileSeen, many_lines_text};
+use croncheck_report::file_seen::FileSeen;
 use crontab::line::Dialect;
 use std::alloc::{AllocError, Global};
 
-/// What is found of a file of so many lines as a whole: that cron passes over it for its name, a warning; or why cron ignores it, an
-/// error for each reason. Nothing is found of a file of patterns, which cron doesn't read.
+/// The text of `file-name` where no line of the file is read.
+const UNREAD: &str =
+    "cron passes over a file of this name, and no line of it is read here: write letters, digits, _ and - alone";
+
+/// The same where its lines are read.
+const MISNAMED: &str = "cron passes over a file of this name: write letters, digits, _ and - alone";
+
+/// What is found of a file of so many lines as a whole: that cron passes over it for its name, a warning; and where its lines are read, why
+/// cron ignores it, an error for each reason. Nothing is found of a file of patterns, which cron doesn't read.
 ///
 /// The only error is lack of memory.
 pub fn findings_of_file(
@@ -25,25 +32,23 @@ pub fn findings_of_file(
     if file.is_passed_over() {
         return findings_of_name(alloc);
     }
-    findings_of_lines(alloc, dialect, lines, file)
+    findings_of_read(alloc, dialect, lines, file)
 }
 
-// That cron passes over a file for its name.
+// That cron passes over a file for its name, of which no line is read.
 fn findings_of_name(alloc: Global) -> Result<Vec<Finding>, AllocError>
     ensures { IfOk result (λ found. findings_said found.items ≡ file_name ∷ []) }
 {
     let mut found = Vec::new(alloc);
-    found.push(file_name(alloc)?)?;
+    found.push(warning_of_name(alloc, UNREAD)?)?;
     Ok(found)
 }
 
-fn file_name(alloc: Global) -> Result<Finding, AllocError>
-    ensures { IfOk result (λ f. finding_said f ≡ file_name) }
+// The warning of a file's name, with this text.
+fn warning_of_name(alloc: Global, text: &str) -> Result<Finding, AllocError>
+    ensures { IfOk result (λ f. finding_said f ≡ name_said text.now) }
 {
-    let text = String::from_str(
-        alloc,
-        "cron passes over a file of this name, and no line of it is read here: write letters, digits, _ and - alone",
-    )?;
+    let text = String::from_str(alloc, text)?;
     Ok(Finding {
         severity: Severity::Warning,
         name: "file-name",
@@ -53,52 +58,77 @@ fn file_name(alloc: Global) -> Result<Finding, AllocError>
     })
 }
 
-fn findings_of_lines(
+fn findings_of_read(
     alloc: Global,
     dialect: Dialect,
     lines: u64,
     file: &FileSeen,
 ) -> Result<Vec<Finding>, AllocError>
-    ensures { IfOk result (λ found. findings_said found.items ≡ findings_of_lines dialect lines (file_seen file.now)) }
+    ensures { IfOk result (λ found. findings_said found.items ≡ findings_of_read dialect lines (file_seen file.now)) }
+{
+    let mut found = Vec::new(alloc);
+    push_misnamed(alloc, &mut found, file.is_misnamed(dialect))?;
+    push_of_lines(alloc, &mut found, dialect, lines, file)?;
+    Ok(found)
+}
+
+// That cron passes over a file for its name, if it does.
+fn push_misnamed(alloc: Global, found: &mut Vec<Finding>, holds: bool) -> Result<(), AllocError>
+    ensures { OnOk result (findings_said found.new.items ≡ findings_said found.old.items ++ said_if holds misnamed) }
+{
+    if holds {
+        found.push(warning_of_name(alloc, MISNAMED)?)?;
+    }
+    Ok(())
+}
+
+fn push_of_lines(
+    alloc: Global,
+    found: &mut Vec<Finding>,
+    dialect: Dialect,
+    lines: u64,
+    file: &FileSeen,
+) -> Result<(), AllocError>
+    ensures { OnOk result (findings_said found.new.items ≡ findings_said found.old.items ++ findings_of_lines dialect lines (file_seen file.now)) }
 {
     match dialect {
-        Dialect::Patterns => Ok(Vec::new(alloc)),
-        Dialect::User | Dialect::System => findings_of_crontab(alloc, dialect, lines, file),
+        Dialect::Patterns => Ok(()),
+        Dialect::User | Dialect::System => push_of_crontab(alloc, found, dialect, lines, file),
     }
 }
 
-fn findings_of_crontab(
+fn push_of_crontab(
     alloc: Global,
+    found: &mut Vec<Finding>,
     dialect: Dialect,
     lines: u64,
     file: &FileSeen,
-) -> Result<Vec<Finding>, AllocError>
-    ensures { IfOk result (λ found. findings_said found.items ≡ findings_of_crontab dialect lines (file_seen file.now)) }
+) -> Result<(), AllocError>
+    ensures { OnOk result (findings_said found.new.items ≡ findings_said found.old.items ++ findings_of_crontab dialect lines (file_seen file.now)) }
 {
-    let mut found = Vec::new(alloc);
-    push_unfit(alloc, &mut found, file.unfit())?;
+    push_unfit(alloc, found, file.unfit())?;
     push_if(
         alloc,
-        &mut found,
+        found,
         file.has_refused(),
         "refused-line",
         "a line is refused",
     )?;
     push_if(
         alloc,
-        &mut found,
+        found,
         file.is_unfed(),
         "no-newline",
         "its last line has no line feed",
     )?;
     push_if(
         alloc,
-        &mut found,
+        found,
         file.has_many_lines(dialect, lines),
         "many-lines",
-        many_lines_text(dialect),
+        file.many_lines_text(dialect),
     )?;
-    Ok(found)
+    Ok(())
 }
 
 // What the file system says of a file, if cron ignores it for that.

@@ -8,7 +8,7 @@ pub struct Rule {
 }
 
 /// The rules of all findings.
-pub const RULES: [Rule; 56] = [
+pub const RULES: [Rule; 57] = [
     Rule {
         name: "nul",
         text: "The line has a byte 0, at which cron ends it.",
@@ -180,6 +180,10 @@ pub const RULES: [Rule; 56] = [
     Rule {
         name: "no-zone",
         text: "Cron runs no job in the zone of a setting.",
+    },
+    Rule {
+        name: "no-effect",
+        text: "A setting has no effect in Debian's cron.",
     },
     Rule {
         name: "not-expanded",

@@ -7,7 +7,7 @@ ghost use Rattle.croncheck_planner.specs.PlanFiles.{IsPage};
 ghost use Rattle.croncheck_planner.specs.Planner.{job_planned, jobs_seen};
 
 use super::ignored::write_told;
-use super::{ClockNames, Planner, is_refused_by_user, write_plan_ending};
+use super::{ClockNames, Planner, is_refused_by_user, spaced_text, write_plan_ending};
 use crate::plan::answers::jobs_of;
 use crate::plan::beside::{other_table, view_beside};
 use crate::plan::title::heading_of;
@@ -54,7 +54,8 @@ impl PagePlanner {
     }
 
     /// The page of the plan as `cronplan_page::page_of` makes it, with this planner's names of the zones and the warnings of each job. Of
-    /// the jobs that start too often it has only the names and counts. `ignored` is what the page says that cron ignores.
+    /// the jobs that start too often it has only the names and counts. Its title is shown as bytes of a file are. `ignored` is what the
+    /// page says that cron ignores.
     ///
     /// The only error is `OutOfMemory`, as that of `answered_plan`.
     pub fn page<'p>(
@@ -73,8 +74,9 @@ impl PagePlanner {
         let table = other_table(terms.alloc, terms.shared, found.plan.span)?;
         let view = view_beside(terms, &planner.names, &found, &table, told.as_slice());
         let warnings = warned.as_slice();
+        let title = spaced_text(terms.alloc, title.as_bytes())?;
         let about = About {
-            title,
+            title: title.as_str(),
             ignored,
             warnings,
         };
@@ -92,7 +94,7 @@ impl PagePlanner {
         entry: &Entry<'_>,
         outcome: Outcome,
     ) -> io::Result<bool>
-        ensures kept { IfOk result (KeepsIf terms.now.settings.now self.old.planner.asked self.old.planner.above.items number place.entry.file.now place.entry.line (entry_seen entry.now)
+        ensures kept { IfOk result (KeepsIf terms.now.settings.now self.old.planner.asked self.old.planner.above.title.items number place.entry.file.now place.entry.line (entry_seen entry.now)
             (job_planned terms.now.settings.now (entry_seen entry.now) outcome) (jobs_seen self.old.planner.schedules self.old.planner.jobs) (jobs_seen self.new.planner.schedules self.new.planner.jobs)) }
         ensures above { self.new.planner.above ≡ self.old.planner.above }
         ensures asked { self.new.planner.asked ≡ self.old.planner.asked }
@@ -160,8 +162,8 @@ impl Form for PagePlanner {
             entry,
             is_fed,
         } = line;
-        self.planner.begin_file(progress.lines);
-        let heading = heading_of(terms.alloc, &entry, text)?;
+        self.planner.begin_file(terms.alloc, progress.lines);
+        let heading = heading_of(terms.alloc, &self.planner.above, &entry, text)?;
         let outcome = outcome_of(terms.alloc, terms.settings.parser, &entry)?;
         let next = Location {
             file: progress.file.name(),

@@ -5,11 +5,14 @@ use croncheck_output::front::{COMMAND_BYTES, push_front};
 use std::alloc::{AllocError, Global};
 use strsim::levenshtein;
 
-/// Appends to a text that no warning has this name, and which name is nearest to it. The only error is lack of memory; the
-/// text's end is then unspecified.
+/// Appends to a text that no warning has this name, and which name is nearest to it. A name that is longer than a text shows it isn't
+/// compared. The only error is lack of memory; the text's end is then unspecified.
 pub fn push_unknown(alloc: Global, text: &mut String, name: &[u8]) -> Result<(), AllocError> {
     text.push_str("No warning that may be allowed has the name ")?;
     push_front(text, name, COMMAND_BYTES)?;
+    if name.len() > COMMAND_BYTES {
+        return text.push_str("; none is so long.");
+    }
     let nearest = nearest_name(alloc, name)?;
     write!(text, "; the nearest is {nearest}.")
 }

@@ -1,17 +1,17 @@
 //! The lines that tell when a job runs.
+ghost use Rattle.std.specs.Prelude.{◌≡◌, ◌++◌, ℕ, List, OnOk, string_bytes};
+ghost use Rattle.croncheck_shown.specs.Shown.{IsOtherClockText};
 
 use super::often::push_often;
+use super::other_clock::push_clock_of;
 use super::previous::push_previous;
-use super::{push_clock_in, weekday_text, window_end};
+use super::{push_clock_in, window_end};
 use crate::off::Off;
 use croncheck_changes::changes::told::push_minute;
 use croncheck_report::report::JobReport;
 use croncheck_report::shared::Shared;
 use croncheck_report::told::Told;
 use croncheck_runs::runs::{End, Listing, MOST_RUNS, Run, Runs};
-use croner::time::CronDateTime;
-use cronplan_forms::Ahead;
-use jiff::Timestamp;
 use std::alloc::{AllocError, Global};
 
 // Puts after a text the lines that tell when a job runs. That it never runs is said by its warning.
@@ -73,24 +73,20 @@ pub(crate) fn push_starts(text: &mut String, run: &Run<'_>) -> Result<(), AllocE
     push_made_up(text, run)
 }
 
-/// Appends to a text what another zone's clock shows at a second, if such a zone is to be shown. The only error is lack of memory.
+/// Appends to a text what another zone's clock shows at a second, if such a zone is to be shown and has the second: those of the years
+/// -9998 to 9998 at least. The weekday is in the language of the reports. The only error is lack of memory.
 pub fn push_other_clock(
     text: &mut String,
     shared: &Shared<'_>,
     second: i64,
-) -> Result<(), AllocError> {
-    let (Some(zone), Ok(instant)) = (&shared.other_zone, Timestamp::from_second(second)) else {
-        return Ok(());
-    };
-    let (civil, ahead) = (
-        zone.to_datetime(instant),
-        Ahead {
-            seconds: i64::from(zone.to_offset(instant).seconds()),
-        },
-    );
-    let weekday = weekday_text(shared.language, civil.civil_weekday());
-    let (date, time) = (civil.date(), civil.time());
-    write!(text, "  = {weekday} {date} {time} {ahead}")
+) -> Result<(), AllocError>
+    ensures { OnOk result ((said : List ℕ) × IsOtherClockText shared.now.language shared.now.other_zone second said
+        × (string_bytes text.new ≡ string_bytes text.old ++ said)) }
+{
+    match &shared.other_zone {
+        Some(zone) => push_clock_of(text, shared.language, zone, second),
+        None => Ok(()),
+    }
 }
 
 // Puts after a text how far off a second is, if that is to be told.

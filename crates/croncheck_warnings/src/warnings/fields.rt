@@ -124,8 +124,8 @@ fn bounds(first: u64, last: u64, names: Names) -> FieldBounds
     FieldBounds { first, last, names }
 }
 
-// The values of a field.
-fn bounds_of_field(field: PatternField) -> FieldBounds
+/// The values of a field.
+pub fn bounds_of_field(field: PatternField) -> FieldBounds
     ensures { result ≡ bounds_of_field field }
 {
     match field {
@@ -138,8 +138,8 @@ fn bounds_of_field(field: PatternField) -> FieldBounds
     }
 }
 
-// How many values there are up to where a field of a time begins anew; 0 for the fields of a date.
-fn turn_of(field: PatternField) -> u64
+/// How many values there are up to where a field of a time begins anew; 0 for the fields of a date.
+pub fn turn_of(field: PatternField) -> u64
     ensures { result ≡ turn_of field }
 {
     match field {
@@ -174,8 +174,8 @@ fn has_long_step(field: PatternField, parts: &[SteppedRange]) -> bool
     }
 }
 
-// Whether a range names its first value alone, since the next one is past its end.
-fn is_beyond(part: &SteppedRange) -> bool
+/// Whether a range names its first value alone, since the next one is past its end.
+pub fn is_beyond(part: &SteppedRange) -> bool
     ensures { result ≡ is_beyond part.now }
 {
     1 < part.step && part.first <= part.last && part.last - part.first < part.step
@@ -216,7 +216,8 @@ fn has_empty_item(field: &[u8]) -> bool
 }
 
 impl<'l> Fields<'l> {
-    fn text_of(&self, field: PatternField) -> &'l [u8]
+    /// The text of a field.
+    pub fn text_of(&self, field: PatternField) -> &'l [u8]
         ensures { result.now ≡ text_of_field field (fields_seen self.now) }
     {
         match field {

@@ -1,11 +1,11 @@
 //! The warnings that follow from which days, months, hours and minutes a job names, however they are written.
-ghost use Rattle.std.specs.Prelude.{◌≡◌, ◌||◌, nat_lt, IfOk, IfErr, pos};
+ghost use Rattle.std.specs.Prelude.{◌≡◌, nat_lt, IfOk, IfErr, pos};
 ghost use Rattle.std.specs.List.{list_any, list_all};
 ghost use Rattle.jiff_core.specs.Calendar.{days_in_month};
 ghost use Rattle.croner_pattern.specs.Meaning.{meaning_of};
 ghost use Rattle.croner_pattern.specs.Schedule.{is_plain};
 ghost use Rattle.croner.specs.Views.{job_of as meaning_of_job};
-ghost use Rattle.croncheck_warnings.specs.Warnings.{names_each_day, names_each_weekday, is_either_day, names_each_date, is_whole_hour, is_without, is_wanting, are_late, is_only, is_leap_day, has_short_months};
+ghost use Rattle.croncheck_warnings.specs.Warnings.{names_each_day, names_each_weekday, is_one_day_side, is_either_day, names_all_days, names_each_date, is_whole_hour, is_without, is_wanting, are_late, is_only, is_leap_day, has_short_months};
 
 use croner::component::{ALL_BIT, CronComponent};
 use croner::errors::CronError;
@@ -59,7 +59,7 @@ fn names_each_weekday(job: &Cron) -> bool
 
 // Whether a day field is a star, or a day has to match both.
 fn is_one_day_side(pattern: &CronPattern) -> bool
-    ensures { result ≡ ((meaning_of pattern.now).star_day || ((meaning_of pattern.now).star_weekday || (meaning_of pattern.now).and)) }
+    ensures { result ≡ is_one_day_side (meaning_of pattern.now) }
 {
     pattern.is_dom_wildcard() || pattern.is_dow_wildcard() || pattern.matches_dom_and_dow()
 }
@@ -71,12 +71,21 @@ pub fn is_either_day(job: &Cron) -> bool
     !is_one_day_side(&job.pattern) && !(names_each_day(job) && names_each_weekday(job))
 }
 
+// Whether each day of the named months is named.
+fn names_all_days(job: &Cron) -> bool
+    ensures { result ≡ names_all_days (meaning_of_job job.now) }
+{
+    if is_one_day_side(&job.pattern) {
+        names_each_day(job) && names_each_weekday(job)
+    } else {
+        names_each_day(job) || names_each_weekday(job)
+    }
+}
+
 fn names_each_date(job: &Cron) -> bool
     ensures { result ≡ names_each_date (meaning_of_job job.now) }
 {
-    names_each_day(job)
-        && names_each_weekday(job)
-        && job.pattern.months.count_set_values(ALL_BIT) == MONTHS
+    names_all_days(job) && job.pattern.months.count_set_values(ALL_BIT) == MONTHS
 }
 
 /// Whether all minutes are named, but not all hours of all dates.

@@ -2,7 +2,6 @@
 ghost use Rattle.std.specs.Prelude.{◌≡◌};
 ghost use Rattle.croncheck_warnings.specs.Warnings.{field_of, warning_name, is_refusal_elsewhere, other_name};
 
-use super::sides::{Dates, Month};
 use super::{OtherWarning, Warning};
 use crate::presets::PRESET;
 use croner::parser::PatternField;
@@ -115,6 +114,7 @@ impl OtherWarning {
             OtherWarning::NoNewline => Warning::NoNewline.name(),
             OtherWarning::ControlByte => Warning::ControlByte.name(),
             OtherWarning::NoZone => "no-zone",
+            OtherWarning::NoEffect => "no-effect",
             OtherWarning::NotExpanded => "not-expanded",
             OtherWarning::NoMail => "no-mail",
             OtherWarning::ManyLines => "many-lines",
@@ -127,6 +127,7 @@ impl OtherWarning {
             OtherWarning::NoNewline => Warning::NoNewline.text(),
             OtherWarning::ControlByte => Warning::ControlByte.text(),
             OtherWarning::NoZone => NO_ZONE,
+            OtherWarning::NoEffect => NO_EFFECT,
             OtherWarning::NotExpanded => NOT_EXPANDED,
             OtherWarning::NoMail => NO_MAIL,
             OtherWarning::ManyLines => MANY_LINES,
@@ -134,72 +135,31 @@ impl OtherWarning {
     }
 }
 
-/// The text of a warning. That of `either-day` says the dates, if there are some, and that of `preset` what the program
-/// does. The only error is lack of memory.
-pub fn warning_text(
-    alloc: Global,
-    warning: Warning,
-    dates: &Option<Dates>,
-) -> Result<String, AllocError> {
+/// The text of a warning of which nothing but its kind is known; that of `preset` says what the program does. The only error is lack of
+/// memory.
+pub fn warning_text(alloc: Global, warning: Warning) -> Result<String, AllocError> {
     if let Warning::Preset(reading) = warning {
         return reading.sentence(alloc);
     }
-    let mut text = String::from_str(alloc, warning.text())?;
-    if let (Warning::EitherDay, Some(dates)) = (warning, dates) {
-        push_dates(&mut text, dates)?;
-    }
-    Ok(text)
-}
-
-// Writes the days of a month by each day field.
-fn push_dates(text: &mut String, dates: &Dates) -> Result<(), AllocError> {
-    let Month {
-        year,
-        month,
-        length,
-        ..
-    } = dates.month;
-    write!(text, " In {year:04}-{month:02} the day of the month names ")?;
-    push_days(text, dates.sides.by_day, length)?;
-    text.push_str(", and the weekday ")?;
-    push_days(text, dates.sides.by_weekday, length)?;
-    text.push_str(".")
-}
-
-// Writes the days of a month of so many days whose bits are set.
-fn push_days(text: &mut String, days: u32, length: u32) -> Result<(), AllocError> {
-    match days.count_ones() {
-        0 => return text.push_str("no day"),
-        named if named == length => return text.push_str("each day"),
-        _ => {}
-    }
-    let mut between = "";
-    for day in 1..=31u32 {
-        if (days >> (day - 1)) & 1 == 1 {
-            write!(text, "{between}{day}")?;
-            between = ", ";
-        }
-    }
-    Ok(())
+    String::from_str(alloc, warning.text())
 }
 
 const EITHER_DAY: &str =
-    "The job runs on each day that the day of the month or the weekday names, not only where both do. For one of the two, write `*` for the other; for both, let the command test the second, as `[ $(date +\\%u) = 1 ] && ..` does for Monday. In a pattern for croner (`--patterns` without `--for`) `+` before the weekday does it; cron and other programs don't know that.";
+    "This starts on each day that the day of the month or the weekday names, not only where both match. Write `*` for one of them, or test the weekday in the command.";
 
 const UNEVEN_STEP: &str =
-    "The step is counted anew from the field's first value, so that from the last run of an hour, minute or day to the next it is shorter. Write a step that divides 60 (24 for hours).";
+    "The last interval of each minute, hour or day is shorter than the others. Write a step that divides 60 (24 for hours).";
 
 const STEP_BEYOND: &str =
-    "No second value of the range is so far away, so the first alone is named. Write that value; a longer interval takes the field of the greater unit, or more lines.";
+    "The step leads past the end of its range, so only the first value counts. Write that value.";
 
 const RANGE_DOWN: &str =
     "A range that goes down names nothing to cron. Write it as two, as `22-23,0-4` for `22-4`, and `fri-7` for `fri-sun`.";
 
 const PASSED_OVER: &str =
-    "Cron passes over what follows a number, a name or a star without a comma, with the rest of the field: `1#2` is 1, `0~5` is 0, `*5` is each value. Write only what counts.";
+    "Cron reads only the front of the field and ignores the rest. Write only what counts.";
 
-const LARGE_NUMBER: &str =
-    "Cron keeps of a number what is left after division by 4294967296. Write that number.";
+const LARGE_NUMBER: &str = "Cron keeps only 32 bits of a number. Write the number that is left.";
 
 const WHOLE_HOUR: &str =
     "The job runs in each of the sixty minutes of its hours. For one run an hour write one minute, as `0`; where each minute is meant, write the hours as one range, as `9-17`.";
@@ -236,6 +196,9 @@ const NO_NEWLINE: &str =
 
 const NO_ZONE: &str =
     "This cron doesn't run jobs in the zone of a setting: it is only a variable of the commands. Write the times in the machine's zone.";
+
+const NO_EFFECT: &str =
+    "Debian's cron only passes this variable to the commands; other crons, such as systemd-cron and cronie, start jobs by it. Take the line out. For a random delay begin the command with `sleep $((RANDOM \\% 300));` and set `SHELL=/bin/bash`.";
 
 const NOT_EXPANDED: &str =
     "Cron takes a value as it stands: it expands neither `$` nor `~`, and a comment after it is a part of it. Write the whole path, and put a comment on a line of its own.";

@@ -4,7 +4,9 @@ use Rattle.std.specs.List.{AllByRecursion, swap}
 use Rattle.std.specs.List.Sorted.{IsStrictlySortedBy}
 use Rattle.std.specs.Ordering.{nat_cmp}
 use Rattle.std.specs.Slice.Iter.{iter_rest}
+use Rattle.std.specs.Vec.Iter.{into_iter_items}
 use Rattle.std.specs.declared.slice.Iter.{Iter}
+use Rattle.std.specs.declared.vec.IntoIter.{IntoIter}
 use Rattle.std.specs.declared.vec.Vec.{Vec}
 use Rattle.croner_scheduler.specs.Room.{row_room}
 
@@ -33,6 +35,11 @@ id_room (Some row) = row_room row
 abbrev pub ids_left : ℕ → ℕ → Option (Iter ℕ) → List ℕ
 ids_left first next None = ids_from first (next - first)
 ids_left first next (Some ids) = iter_rest ids
+
+-- the ids that an iterator which owns them has left
+abbrev pub ids_to_give : {Z : Type 0} → ℕ → ℕ → Option (IntoIter ℕ Z) → List ℕ
+ids_to_give first next None = ids_from first (next - first)
+ids_to_give first next (Some ids) = into_iter_items ids
 
 -- the ids whose places hold a job, each with the job
 abbrev pub entries_in : {W : Type 0} → List ℕ → List (Option W) → List (ℕ × W)

@@ -1,5 +1,5 @@
 -- How what is kept of a job comes of its search, and changes when it moves. Private contracts alone cite these definitions.
-use Rattle.std.specs.Prelude.{◌≡◌, ℕ, ℤ, pos, ◌-ℤ◌, ◌<ℤ◌, int_lt, Bool, true, false, cond, if◌then◌else◌, Option, None, Some, IfSome, option_map, Result, Ok, Err, alloc_error}
+use Rattle.std.specs.Prelude.{◌≡◌, ℕ, ℤ, pos, ◌-ℤ◌, ◌<ℤ◌, int_lt, Bool, true, false, cond, if◌then◌else◌, is_some, Option, None, Some, IfSome, option_map, Result, Ok, Err, alloc_error}
 use Rattle.std.specs.BTreeMap.{is_at}
 use Rattle.std.specs.Option.{IsSomeAnd}
 use Rattle.std.specs.Ordering.{nat_cmp, int_eq}
@@ -9,6 +9,8 @@ use Rattle.croner_base.specs.declared.errors.CronError.TheVariants.{InvalidDate,
 use Rattle.croner_base.specs.Zone.{Moment, at_instant}
 use Rattle.croner_scheduler.specs.declared.again.Again.{Again}
 use Rattle.croner_scheduler.specs.declared.again.Again.TheVariants.{GoesOn, StillStopped}
+use Rattle.croner_scheduler.specs.declared.skip.Skip.{Skip}
+use Rattle.croner_scheduler.specs.declared.skip.Skip.TheVariants.{Moved}
 use Rattle.croner_scheduler.specs.declared.turns.Turn.{Turn}
 use Rattle.croner_scheduler.specs.declared.waiting.Next.{Next}
 use Rattle.croner_scheduler.specs.declared.waiting.Next.TheVariants.{Run, Over, Stopped}
@@ -17,6 +19,7 @@ use Rattle.croner_scheduler.specs.declared.waiting.Refusal.TheVariants as refusa
 use Rattle.croner_scheduler.specs.declared.waiting.Stop.TheVariants.{Refused, NotLater}
 use Rattle.croner_scheduler.specs.declared.waiting.Waiting.{Waiting}
 use Rattle.croner_scheduler.specs.Calls.{second_before, HasNoneBefore}
+use Rattle.croner_scheduler.specs.Kept.{stop_of}
 use Rattle.croner_scheduler.specs.Standing.{Held}
 
 -- what a run that was found is to the job that stands at a second: its next one, if it is later
@@ -83,6 +86,16 @@ job_with_next next w = record { job = w.job; position = w.position; next = next 
 abbrev pub ArePartsOf : {J T : Type 0} → Option (Waiting J T) → J × T → Type 0
 ArePartsOf (Some w) parts = (parts.0 ≡ w.job) × (parts.1 ≡ w.position)
 ArePartsOf None parts = ⊥
+
+-- a skip moved its job, which is stopped
+abbrev pub is_skip_stopped : Skip → Bool
+is_skip_stopped (Moved b) = b
+is_skip_stopped other = false
+
+-- how many of one job are stopped
+abbrev pub stop_len : {J T : Type 0} → Option (Waiting J T) → ℕ
+stop_len (Some w) = if is_some (stop_of w.next) then 1 else 0
+stop_len None = 0
 
 -- what became of a job that was searched again, by whether it is stopped
 abbrev pub again_of : Bool → Again

@@ -1,6 +1,6 @@
 //! What a plan leaves out.
 ghost use Rattle.std.specs.Prelude.{◌≡◌, ◌++◌, IfOk, OnOk, string_bytes};
-ghost use Rattle.cronplan_forms.specs.Answers.{titles_of, title_at, job_name, left_out_line, left_out_lines, quoted_title, starts_line, cut_line, left_out_text};
+ghost use Rattle.cronplan_forms.specs.Answers.{titles_of, title_at, job_name, left_out_line, left_out_lines, quoted_title, or_more, starts_line, cut_line, left_out_text};
 
 use crate::answers::busy::Starts;
 use crate::answers::together::push_label;
@@ -72,7 +72,19 @@ fn push_starts(text: &mut String, count: u64) -> Result<(), AllocError>
     ensures { OnOk result (string_bytes text.new ≡ string_bytes text.old ++ starts_line count) }
 {
     let starts = Starts { count };
-    write!(text, ", {starts}\n")
+    let or_more = or_more(count);
+    write!(text, ", {starts}{or_more}\n")
+}
+
+/// What is said after the number of a job's starts: of more than a plan keeps not all are counted.
+pub fn or_more(count: u64) -> &'static str
+    ensures { result.now ≡ or_more count }
+{
+    if (MOST_STARTS as u64) < count {
+        " or more"
+    } else {
+        ""
+    }
 }
 
 /// The title of the job at a place; nothing where there is none.

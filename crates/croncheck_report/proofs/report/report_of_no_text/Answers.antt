@@ -1,7 +1,7 @@
-use Rattle.std.proofs.Common.{Option, None, refl, sym, subst}
+use Rattle.std.proofs.Common.{Option, refl, sym, subst}
 use Rattle.croner_pattern.specs.Meaning.{Meaning}
 use Rattle.crontab.specs.Entries.{job_seen}
-use Rattle.croncheck_report.specs.Report.{IsWarned, TellsChanges, DatesOf}
+use Rattle.croncheck_report.specs.Report.{IsWarned, TellsChanges}
 use Rattle.croncheck_report.specs.Told.{cron_of}
 use Rattle.croncheck_warnings.specs.Users.{users_seen}
 use Rattle.croncheck_report.proofs.Outcomes.{no_meaning}
@@ -21,5 +21,4 @@ returns-clause-report c = λ blanks read.
       warned = subst (λ (m : Option Meaning). IsWarned c.args.is_fed (users_seen s.users) task.schedule task.user task.command m times c.in_ok-warnings.warnings.items) is
           c.in_ok-warnings.ensures.warnings;
       met = subst (λ (m : Option Meaning). TellsChanges s (cron_of task.schedule) m times c.none.result) is c.none.ensures;
-      dated = subst (λ (m : Option Meaning). DatesOf m times None) is refl;
     }

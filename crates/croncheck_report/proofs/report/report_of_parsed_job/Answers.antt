@@ -3,7 +3,7 @@ use Rattle.croner.specs.Views.{job_of}
 use Rattle.croner_pattern.specs.Meaning.{Meaning}
 use Rattle.crontab.specs.Entries.{job_seen}
 use Rattle.croncheck_runs.specs.declared.runs.Runner.TheVariants as runners
-use Rattle.croncheck_report.specs.Report.{IsWarned, TellsChanges, DatesOf}
+use Rattle.croncheck_report.specs.Report.{IsWarned, TellsChanges}
 use Rattle.croncheck_report.specs.Told.{cron_of, TellsMeaning}
 use Rattle.croncheck_warnings.specs.Users.{users_seen}
 use Rattle.croncheck_report.proofs.Outcomes.{meaning_is, tells_timing}
@@ -26,5 +26,4 @@ returns-clause-report c = λ blanks read starred.
       met = subst (λ (m : Option Meaning). TellsChanges s (cron_of task.schedule) m c.in_ok-times.times c.meetings_of-meetings.result) is
           (subst (λ (b : Bool). TellsChanges s (runners.Cron b) (Some (job_of cron)) c.in_ok-times.times c.meetings_of-meetings.result) starred
           c.meetings_of-meetings.ensures);
-      dated = subst (λ (m : Option Meaning). DatesOf m c.in_ok-times.times c.in_ok-dates.dates) is c.in_ok-dates.ensures.dates;
     }

@@ -2,7 +2,7 @@ use Rattle.std.proofs.Common.{Result, refl, sym, subst}
 use Rattle.croner_pattern.specs.Meaning.{Meaning}
 use Rattle.croner.specs.parser.Grammar.{Refusal}
 use Rattle.croncheck_runs.specs.declared.runs.Runner.TheVariants as runners
-use Rattle.croncheck_report.specs.Report.{WarnsPattern, MeetsPattern, DatesOf, meaning_read}
+use Rattle.croncheck_report.specs.Report.{WarnsPattern, MeetsPattern, meaning_read}
 use Rattle.croncheck_report.specs.Told.{TellsMeaning}
 use Rattle.croncheck_report.proofs.report.report_of_parsed_pattern.Goals as goal
 
@@ -17,6 +17,4 @@ returns-clause-report c = λ blanks read. record {
       c.in_ok-warnings.warnings.items) (sym read) c.in_ok-warnings.ensures.warnings;
   met = subst (λ (r : Result Meaning Refusal). MeetsPattern c.args.settings.now (meaning_read r) c.in_ok-times.times
       c.meetings_of-meetings.result) (sym read) c.meetings_of-meetings.ensures;
-  dated = subst (λ (r : Result Meaning Refusal). DatesOf (meaning_read r) c.in_ok-times.times c.in_ok-dates.dates)
-      (sym read) c.in_ok-dates.ensures.dates;
 }

@@ -4,8 +4,8 @@ use Rattle.croner_scheduler.proofs.LastRuns.{last_found}
 use Rattle.croner_scheduler.specs.Private.Latest.{last_of_run, FitsLast}
 use Rattle.croner_scheduler.proofs.latest.last_of.Goals as goal
 
-pub returns-in-Ok : goal.returns-in-Ok
-returns-in-Ok g c =
+pub returns-in-Ok-clause-fits : goal.returns-in-Ok-clause-fits
+returns-in-Ok-clause-fits g c =
     let runs = g.J.Recurring.runs c.args.job.now in
     let moment = g.T.CronDateTime.moment in
     let whole : SFits w64 c.args.next = search rules in

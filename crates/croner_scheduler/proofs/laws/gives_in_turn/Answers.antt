@@ -1,5 +1,6 @@
 use Rattle.croner_scheduler.proofs.History.{gives_in_turn, never_keeps_back, stays_gone}
 use Rattle.croner_scheduler.proofs.Lives.{gives_across, gives_of_one_life}
+use Rattle.croner_scheduler.proofs.Restarts.{gives_again}
 use Rattle.croner_scheduler.specs.Views.{held_of}
 use Rattle.std.proofs.Common.{◌≡◌, ℕ, ◌≤◌, None, subst}
 use Rattle.croner_scheduler.proofs.laws.gives_in_turn.Goals as goal
@@ -21,3 +22,6 @@ returns-clause-one_life g c =
     let scheduler = c.args.scheduler.now in
     gives_of_one_life g.J.Recurring.runs (held_of g.T.CronDateTime.moment scheduler)
     (subst (λ n. (id : ℕ) → n ≤ id → (held_of g.T.CronDateTime.moment scheduler).jobs id ≡ None) c.next_id.ensures.next_id c.next_id.ensures.unused)
+
+pub returns-clause-again : goal.returns-clause-again
+returns-clause-again g c = gives_again g.J.Recurring.runs (held_of g.T.CronDateTime.moment c.args.scheduler.now)

@@ -1,6 +1,6 @@
 use Rattle.std.proofs.Common.{◌≡◌, sym, ◌∙◌, false}
 use Rattle.std.specs.BinaryHeap.{heap_items, heap_len}
-use Rattle.croner_scheduler.proofs.Rooms.{room_left, len_left}
+use Rattle.croner_scheduler.proofs.Rooms.{len_left}
 use Rattle.croner_scheduler.proofs.TurnHeap.{still_heap, still_listed}
 use Rattle.croner_scheduler.specs.Ids.{job_of}
 use Rattle.croner_scheduler.specs.Private.Steps.{is_awaited_at}
@@ -15,6 +15,6 @@ loop-turn-preserved g c =
       still_heap (heap_items turns) (heap_items left) (heap_len turns) (heap_len left) c.pop.result c.pop.ensures.heap_order c.pop.ensures.unchanged c.loop-turn.invariant.0,
       still_listed (job_of c.args.jobs.now) (heap_items turns) (heap_items left) turn c.in-Some.ensures.top stale (heap_len turns) (heap_len left)
           c.pop.result c.pop.ensures.top c.pop.ensures.permutation c.pop.ensures.unchanged c.loop-turn.invariant.1,
-      room_left _ _ (heap_len turns) (heap_len left) _ _ c.pop.result c.pop.ensures.len c.pop.ensures.unchanged c.pop.ensures.capacity c.loop-turn.invariant.2,
+      c.pop.ensures.capacity ∙ c.loop-turn.invariant.2,
       len_left _ _ (heap_len turns) (heap_len left) c.pop.result c.pop.ensures.len c.pop.ensures.unchanged c.loop-turn.invariant.3,
     )

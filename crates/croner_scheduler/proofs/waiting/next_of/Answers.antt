@@ -3,8 +3,8 @@ use Rattle.croner_scheduler.proofs.NextRuns.{fits_found}
 use Rattle.croner_scheduler.specs.Kept.{FitsNext}
 use Rattle.croner_scheduler.proofs.waiting.next_of.Goals as goal
 
-pub returns-in-Ok : goal.returns-in-Ok
-returns-in-Ok g c =
+pub returns-in-Ok-clause-fits : goal.returns-in-Ok-clause-fits
+returns-in-Ok-clause-fits g c =
     let runs = g.J.Recurring.runs c.args.job.now in
     let position = g.T.CronDateTime.moment c.args.position.now in
     let found = c.in-Ok.found in

@@ -15,4 +15,5 @@ loop-start-preserved c = record {
   counted = λ q. c.in_ok-add_start.ensures.added q ∙ ap (λ (n : ℕ). n + added_at c.args.unit q (get_or c.args.starts.now c.loop-start.start-index none)) (c.loop-start.invariant.counted q)
       ∙ sym (starts_at-more c.args.unit q c.args.starts.now c.loop-start.start-index none (omega arith));
   fits = λ q. omega (arith, c.loop-start.invariant.fits q, c.in_ok-add_start.ensures.few q);
+  no_zero = c.in_ok-add_start.ensures.no_zero c.loop-start.invariant.no_zero;
 }

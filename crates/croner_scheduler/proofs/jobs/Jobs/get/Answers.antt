@@ -7,11 +7,11 @@ pub returns-in-Some : goal.returns-in-Some
 returns-in-Some g c =
     let self = c.self.inside in
     c.as_ref.ensures.value
-    ∙ is_job self.ids.items self.places.items self.count self.ids.next c.self.invariant c.in-Some.place c.args.id
+    ∙ is_job self.ids.items self.places.items self.count self.ids.next c.self.invariant.0 c.in-Some.place c.args.id
     c.in-Some.ensures.found c.index.result.now c.index.ensures
     ∙ ap (λ jobs. job_of jobs c.args.id) c.self.view_is
 
 pub returns-in-None : goal.returns-in-None
 returns-in-None g c =
     let self = c.self.inside in
-    sym (has_none self.ids.items self.places.items self.count self.ids.next c.self.invariant c.args.id c.in-None.ensures.none) ∙ ap (λ jobs. job_of jobs c.args.id) c.self.view_is
+    sym (has_none self.ids.items self.places.items self.count self.ids.next c.self.invariant.0 c.args.id c.in-None.ensures.none) ∙ ap (λ jobs. job_of jobs c.args.id) c.self.view_is

@@ -7,4 +7,4 @@ use Rattle.croner_scheduler.proofs.jobs.Jobs.iter.Goals as goal
 pub returns-clause-ordered : goal.returns-clause-ordered
 returns-clause-ordered g c =
     let self = c.self.inside in
-    subst (λ jobs. IsStrictlySortedBy nat_cmp (keys_of jobs.entries)) c.self.view_is (keys_rise self.ids.items self.places.items c.self.invariant.ordered)
+    subst (λ jobs. IsStrictlySortedBy nat_cmp (keys_of jobs.entries)) c.self.view_is (keys_rise self.ids.items self.places.items c.self.invariant.0.ordered)

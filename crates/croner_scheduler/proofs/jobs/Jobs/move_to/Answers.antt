@@ -1,20 +1,41 @@
-use Rattle.std.proofs.Common.{◌≡◌, refl, ap, ◌∙◌, subst, length, option_map}
+use Rattle.std.proofs.Common.{None, ◌≡◌, refl, ap, ◌∙◌, subst, length, option_map, arith}
 use Rattle.croner_scheduler.proofs.Places.{stays, changes, still_many, still_places, map_keeps}
 use Rattle.croner_scheduler.specs.Ids.{job_of}
 use Rattle.croner_scheduler.specs.Private.Steps.{jobs_with, job_at_position}
+use Rattle.croner_scheduler.proofs.StopCounts.{counted_after, counted_set, stopped_few, one_stop}
 use Rattle.croner_scheduler.proofs.jobs.Jobs.move_to.Goals as goal
+
+pub overflow_sub-others : goal.overflow_sub-others
+overflow_sub-others g c =
+    let self = c.self.inside in
+    let many = counted_set self.ids.items self.places.items self.count self.ids.next c.self.invariant.0 self.stopped c.self.invariant.1 c.in-Some.place c.args.id
+    c.in-Some.ensures.found c.index.result.now c.index.ensures None in
+    omega (arith, many, c.stop_len.ensures)
+
+pub overflow_add-self : goal.overflow_add-self
+overflow_add-self g c =
+    let self = c.self.inside in
+    let few = stopped_few self.ids.items self.places.items self.count self.ids.next c.self.invariant.0 self.stopped c.self.invariant.1 in
+    let one = one_stop c.index-in-Some.result.now in
+    omega (arith, few, one, c.stop_len-in-Some.ensures, self.places.ok.0, self.places.ok.1, self.places.small)
 
 pub invariant_of-self : goal.invariant_of-self
 invariant_of-self g c =
     let self = c.self.inside in
-    still_places self.ids.items self.places.items self.count self.ids.next c.self.invariant c.in-Some.place c.args.id
-    c.in-Some.ensures.found c.index_mut.result.now c.index_mut.ensures.value
-    c.move_to.new.place (map_keeps (job_at_position c.args.position c.args.next) c.index_mut.result.now c.move_to.new.place c.move_to.ensures)
+    let least = counted_set self.ids.items self.places.items self.count self.ids.next c.self.invariant.0 self.stopped c.self.invariant.1 c.in-Some.place c.args.id
+    c.in-Some.ensures.found c.index.result.now c.index.ensures None in
+    let many = counted_after self.ids.items self.places.items self.count self.ids.next c.self.invariant.0 self.stopped c.self.invariant.1 c.in-Some.place c.args.id
+    c.in-Some.ensures.found c.index.result.now c.index.ensures c.move_to.new.place c.index-in-Some.result.now c.index-in-Some.ensures in (
+      still_places self.ids.items self.places.items self.count self.ids.next c.self.invariant.0 c.in-Some.place c.args.id
+          c.in-Some.ensures.found c.index_mut.result.now c.index_mut.ensures.value
+          c.move_to.new.place (map_keeps (job_at_position c.args.position c.args.next) c.index_mut.result.now c.move_to.new.place c.move_to.ensures),
+      omega (arith, many, least, c.stop_len.ensures, c.stop_len-in-Some.ensures),
+    )
 
 pub returns-in-Some-clause-jobs : goal.returns-in-Some-clause-jobs
 returns-in-Some-clause-jobs g c k =
     let self = c.self.inside in
-    changes self.ids.items self.places.items self.count self.ids.next c.self.invariant c.in-Some.place c.args.id
+    changes self.ids.items self.places.items self.count self.ids.next c.self.invariant.0 c.in-Some.place c.args.id
     c.in-Some.ensures.found c.index_mut.result.now c.index_mut.ensures.value
     (option_map (job_at_position c.args.position c.args.next)) c.move_to.new.place c.move_to.ensures k
     ∙ ap (λ jobs. jobs_with c.args.id (job_at_position c.args.position c.args.next) k (job_of jobs k)) c.self.view_is
@@ -22,7 +43,7 @@ returns-in-Some-clause-jobs g c k =
 pub returns-in-Some-clause-count : goal.returns-in-Some-clause-count
 returns-in-Some-clause-count g c =
     let self = c.self.inside in
-    still_many self.ids.items self.places.items self.count self.ids.next c.self.invariant c.in-Some.place c.args.id
+    still_many self.ids.items self.places.items self.count self.ids.next c.self.invariant.0 c.in-Some.place c.args.id
     c.in-Some.ensures.found c.index_mut.result.now c.index_mut.ensures.value
     c.move_to.new.place (map_keeps (job_at_position c.args.position c.args.next) c.index_mut.result.now c.move_to.new.place c.move_to.ensures)
     ∙ ap (λ jobs. length jobs.entries) c.self.view_is
@@ -31,4 +52,4 @@ pub returns-in_default-clause-jobs : goal.returns-in_default-clause-jobs
 returns-in_default-clause-jobs g c k =
     let self = c.self.inside in
     subst (λ jobs. job_of jobs k ≡ jobs_with c.args.id (job_at_position c.args.position c.args.next) k (job_of jobs k)) c.self.view_is
-    (stays self.ids.items self.places.items self.count self.ids.next c.self.invariant c.args.id c.in_default.ensures.none (option_map (job_at_position c.args.position c.args.next)) refl k)
+    (stays self.ids.items self.places.items self.count self.ids.next c.self.invariant.0 c.args.id c.in_default.ensures.none (option_map (job_at_position c.args.position c.args.next)) refl k)

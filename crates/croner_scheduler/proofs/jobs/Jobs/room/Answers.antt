@@ -8,4 +8,4 @@ returns-clause-fits g c =
     let self = c.self.inside in
     let le = no_more self.ids.items self.places.items in
     let is : c.min.result ≡ min self.ids.room (row_room self.places) = search rules in
-    subst (λ jobs. length jobs.entries + c.min.result < 2 ^ 64) c.self.view_is (omega (arith, le, is, c.self.invariant.beside, self.places.ok.0, self.places.ok.1, self.places.small))
+    subst (λ jobs. length jobs.entries + c.min.result < 2 ^ 64) c.self.view_is (omega (arith, le, is, c.self.invariant.0.beside, self.places.ok.0, self.places.ok.1, self.places.small))

@@ -43,7 +43,7 @@ returns-clause-taken g c =
     (to_z-of_z w64 c.args.now now_fits) c.in-Some-at_second.ensures in
     let last = subst (λ m. FitsLast (g.J.Recurring.runs w.job) g.T.CronDateTime.moment known m c.in_ok-last.last) at.0
     (subst (λ (z : ℤ). FitsLast (g.J.Recurring.runs w.job) g.T.CronDateTime.moment z (g.T.CronDateTime.moment c.in-Some-at_second.until) c.in_ok-last.last)
-    (to_z-of_z w64 known whole) c.in_ok-last.ensures) in
+    (to_z-of_z w64 known whole) c.in_ok-last.ensures.fits) in
     if_ok (IsLastGiven g.T.CronDateTime.moment held c.args.id _ c.in_ok-last.last held') (TakesLatest g.J.Recurring.runs c.args.id c.args.now held held')
     c.give_last.result c.give_last.ensures.given
     (λ answer given. takes g.J.Recurring.runs g.T.CronDateTime.moment c.args.now w fits known due.0 due.1 held held' c.args.id

@@ -1,5 +1,4 @@
-use Rattle.std.proofs.Common.{◌≤ℤ◌, ◌∙◌, List, ap, map, subst, ℤ}
-use Rattle.std.specs.List.{All}
+use Rattle.std.proofs.Common.{◌∙◌, List, ap, map, subst}
 use Rattle.std.specs.List.Sorted.{IsPermutation}
 use Rattle.croner_base.specs.TableZone.{table_zone}
 use Rattle.croner_base.specs.Zone.{Zone}
