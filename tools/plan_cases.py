@@ -124,14 +124,15 @@ class Case:
         return 1 if self.files.ignored else 0
 
     def tally(self):
-        """How many jobs there are, and how many lines are refused."""
+        """How many files and jobs there are, and how many lines are refused."""
         jobs, refused = self.files.counts
-        return f"{plan_texts.many(jobs, 'job')}, {refused} refused"
+        return f"{plan_texts.many(len(self.names), 'file')}, {plan_texts.many(jobs, 'job')}, {refused} refused"
 
     def ignored(self):
-        """The end of that line: how many files cron ignores, where it does."""
+        """The end of that line: how many files cron ignores, where it does, and the zone."""
         files = len(self.files.ignored)
-        return f", {plan_texts.many(files, 'file')} ignored\n" if files else "\n"
+        ignored = f", {plan_texts.many(files, 'file')} ignored" if files else ""
+        return f"{ignored}, zone {self.zone}\n"
 
 
 def has_spring(case):

@@ -1,10 +1,11 @@
 //! The files of the machine, and its standard input.
 
-use crate::meant::is_line;
+use crate::meant::{is_line, is_there};
 use crate::regular::bytes_of;
 use crate::sorted::{Texts, texts_of};
 use croncheck_command::words::Call;
 use croncheck_files::fitness::{Facts, Keeper, Unfit, unfit_of};
+use croncheck_files::folder::{Sort, Treatment, path_in, sort_of, treatment_of};
 use croncheck_files::names::{Asked, STANDARD_INPUT};
 use croncheck_files::root::{Kept, Root, kept_in};
 use croncheck_output::escaped::shown_text;
@@ -88,6 +89,46 @@ impl<'r> Machine<'r> {
             })?,
         }
         Ok(())
+    }
+
+    /// Whether a file is told of what a call names: one that is there, or one in a folder. Standard input, a line and a pattern are none. The only
+    /// error is lack of memory.
+    pub fn has_file(&self, named: Asked<'_>) -> Result<bool, AllocError> {
+        if named.word == STANDARD_INPUT || self.is_text(named.word) {
+            return Ok(false);
+        }
+        match sort_of(self.is_folder(named.word), &named) {
+            Sort::NoCrontab => Ok(false),
+            Sort::Folder => self.has_file_in(named),
+            Sort::File => Ok(is_there(self.rt, named.word)),
+        }
+    }
+
+    // Whether a file in a folder is told.
+    fn has_file_in(&self, folder: Asked<'_>) -> Result<bool, AllocError> {
+        let Ok(names) = self.names(folder.word) else {
+            return Ok(false);
+        };
+        for name in names.as_slice() {
+            if self.is_told(folder, name.as_str())? {
+                return Ok(true);
+            }
+        }
+        Ok(false)
+    }
+
+    // Whether the file of this name in a folder is told.
+    fn is_told(&self, folder: Asked<'_>, name: &str) -> Result<bool, AllocError> {
+        let path = path_in(self.rt.alloc(), folder.word, name)?;
+        let file = Asked {
+            word: path.as_str(),
+            name: path.as_str(),
+            kind: folder.kind,
+        };
+        match treatment_of(self.is_folder(file.word), &file, name) {
+            Treatment::PassedOver | Treatment::Read => Ok(true),
+            Treatment::Silent | Treatment::NotEntered | Treatment::NoCrontab => Ok(false),
+        }
     }
 
     // Whose a crontab is, if its owner, mode and links are looked at.

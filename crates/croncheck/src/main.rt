@@ -15,6 +15,7 @@ mod replaced;
 mod saved;
 mod sorted;
 mod telling;
+mod zone_names;
 mod zones;
 
 use begin::{last_second, moment_of};
@@ -45,11 +46,13 @@ use jiff::tz::TimeZone;
 use machine::{Machine, announce, announce_missing};
 use meant::{Meant, has_no_file, meant_by, told_beside_line};
 use regular::bytes_of;
+use sorted::Sorted;
 use std::alloc::AllocError;
 use std::io::{ErrorKind, IsTerminal};
 use std::process::ExitCode;
 use std::{env, fs, io};
-use telling::tell_of_machine;
+use telling::{sorted_on, tell_sorted};
+use zone_names::name_beside_count;
 use zones::ZoneSource;
 
 const MISUSED: u8 = 2;
@@ -358,24 +361,60 @@ fn check_on_machine(rt: &HostRuntime, call: &Call<'_>, clocks: Clocks<'_>) -> Re
     let root = root_of(rt, call.root)?;
     let users = users_text(rt, call, &root).map_err(Problem::Users)?;
     let machine = Machine::new(rt, &root, call, known_users(&users));
-    check_by_settings(rt, call, clocks, &machine)
+    check_sorted(rt, call, clocks, &machine)
 }
 
-// Checks by the settings that the call asks for.
-fn check_by_settings(
+// Checks what the call names.
+fn check_sorted(
     rt: &HostRuntime,
     call: &Call<'_>,
     clocks: Clocks<'_>,
     machine: &Machine<'_>,
 ) -> Result<u8, Problem> {
-    let settings = settings_of(call, clocks, look_of(rt, call), machine.users());
-    let shared = shared_by(clocks.zones, settings.of(Dialect::User));
-    let kinds = TermsByKind::new(rt.alloc(), &settings, &shared);
-    tell_of_machine(rt, call, &kinds, machine)
+    let sorted = sorted_on(rt, call, machine)?;
+    let Ok(name) = name_beside_count(rt, call, machine, &sorted, &clocks.zones.zone) else {
+        return Err(Problem::OutOfMemory);
+    };
+    check_by_settings(rt, call, clocks, shown_name(&name), machine, &sorted)
 }
 
-// What all reports share, whose clocks are those of the zones.
-fn shared_by<'z>(zones: ShownZones<'z>, settings: &Settings<'_>) -> Shared<'z> {
+fn shown_name(name: &Option<String>) -> Option<&str> {
+    match name {
+        Some(name) => Some(name.as_str()),
+        None => None,
+    }
+}
+
+// Checks by the settings that the call asks for. The last line counts the files if the zone has a name for that.
+fn check_by_settings<'z>(
+    rt: &HostRuntime,
+    call: &Call<'_>,
+    clocks: Clocks<'z>,
+    name: Option<&'z str>,
+    machine: &Machine<'_>,
+    sorted: &Sorted<'_>,
+) -> Result<u8, Problem> {
+    let settings = settings_of(call, clocks, look_of(rt, call), machine.users());
+    let shared = shared_by(clocks.zones, name, settings.of(Dialect::User));
+    let kinds = TermsByKind::new(rt.alloc(), &settings, &shared);
+    tell_sorted(rt, call, &kinds, machine, sorted)
+}
+
+// What all reports share, whose clocks are those of the zones. The name is that of the zone in the last line.
+fn shared_by<'z>(
+    zones: ShownZones<'z>,
+    name: Option<&'z str>,
+    settings: &Settings<'_>,
+) -> Shared<'z> {
+    let shared = shared_of(zones, settings);
+    match name {
+        Some(name) => shared.with_zone_name(name),
+        None => shared,
+    }
+}
+
+// The same without a name.
+fn shared_of<'z>(zones: ShownZones<'z>, settings: &Settings<'_>) -> Shared<'z> {
     let shared = Shared::of(zones.zone, settings);
     match zones.other {
         Some(other) => shared.with_other_zone(other),

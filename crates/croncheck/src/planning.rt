@@ -4,8 +4,9 @@ use crate::counted::Counted;
 use crate::replaced::replaces_source;
 use crate::saved::save;
 use crate::telling::{Named, tell_counted};
+use crate::zone_names::{name_of_other_zone, name_of_zone};
 use croncheck_command::problem::Problem;
-use croncheck_command::words::{Call, LOCAL};
+use croncheck_command::words::Call;
 use croncheck_planner::planner::page::PagePlanner;
 use croncheck_planner::planner::{ClockNames, Planner};
 use croncheck_reading::files::tell_files;
@@ -29,11 +30,6 @@ const UNREAD: u8 = 3;
 
 /// What the calendar of a plan is called, and its page, if no word of the call says it.
 const TITLE: &str = "What cron starts";
-
-/// What the zone of this machine is called, and that of the machine that is checked, where it has no name.
-const THIS_ZONE: &str = "this machine";
-
-const CHECKED_ZONE: &str = "that machine";
 
 /// Plans the jobs of the files, as texts unless a file is asked for, and answers the status of the call. The error says why there is no
 /// answer.
@@ -101,45 +97,9 @@ fn clock_names(
     call: &Call<'_>,
     shared: &Shared<'_>,
 ) -> Result<ClockNames, AllocError> {
-    let zone = name_of_zone(rt, call, shared)?;
-    let other = name_of_other_zone(rt, call, shared)?;
+    let zone = name_of_zone(rt, call, &shared.zone)?;
+    let other = name_of_other_zone(rt, call, shared.other_zone)?;
     Ok(ClockNames { zone, other })
-}
-
-// The name of the zone whose clock is shown: its own name, or else that by which the call has it; a machine's zone is named by the machine.
-fn name_of_zone(
-    rt: &HostRuntime,
-    call: &Call<'_>,
-    shared: &Shared<'_>,
-) -> Result<String, AllocError> {
-    if let Some(name) = shared.zone.iana_name() {
-        return String::from_str(rt.alloc(), name);
-    }
-    if call.zone != LOCAL {
-        return String::from_str(rt.alloc(), call.zone);
-    }
-    if call.root.is_some() {
-        return String::from_str(rt.alloc(), CHECKED_ZONE);
-    }
-    String::from_str(rt.alloc(), THIS_ZONE)
-}
-
-// The name of the zone that is shown besides, found in the same way; empty if there is none.
-fn name_of_other_zone(
-    rt: &HostRuntime,
-    call: &Call<'_>,
-    shared: &Shared<'_>,
-) -> Result<String, AllocError> {
-    let Some(zone) = &shared.other_zone else {
-        return Ok(String::new(rt.alloc()));
-    };
-    if let Some(name) = zone.iana_name() {
-        return String::from_str(rt.alloc(), name);
-    }
-    match call.show_zone {
-        Some(word) if word != LOCAL => String::from_str(rt.alloc(), word),
-        Some(_) | None => String::from_str(rt.alloc(), THIS_ZONE),
-    }
 }
 
 // What took the files in a form, with what it told of them, and the status.

@@ -44,7 +44,8 @@ impl Source {
         })
     }
 
-    fn asked(&self) -> Asked<'_> {
+    /// The file, line or pattern.
+    pub fn asked(&self) -> Asked<'_> {
         Asked {
             word: self.word.as_str(),
             name: self.name.as_str(),
@@ -62,7 +63,7 @@ pub fn asked_of<'f>(rt: &HostRuntime, sources: &'f [Source]) -> Result<Vec<Asked
     Ok(files)
 }
 
-/// What the words of a call name.
+/// What a call names.
 #[derive(Drop)]
 pub struct Sorted<'w> {
     /// Lines that are told as texts.
@@ -73,14 +74,27 @@ pub struct Sorted<'w> {
     pub has_yaml: bool,
 }
 
-/// The words of a call by what they name. Where folders are to be entered, what is found there stands in place of the folder. Standard error says
-/// which files are of YAML. The error is that of a folder that can't be listed, or says that memory is lacking.
-pub fn sorted_words<'w>(rt: &HostRuntime, call: &Call<'w>) -> io::Result<Sorted<'w>> {
-    let mut sorted = Sorted {
+/// These files and no line. The only error is lack of memory.
+pub fn sorted_files<'w>(rt: &HostRuntime, files: &[Asked<'_>]) -> Result<Sorted<'w>, AllocError> {
+    let mut sorted = nothing(rt);
+    for file in files {
+        sorted.files.push(Source::of(rt, *file)?)?;
+    }
+    Ok(sorted)
+}
+
+fn nothing<'w>(rt: &HostRuntime) -> Sorted<'w> {
+    Sorted {
         lines: Vec::new(rt.alloc()),
         files: Vec::new(rt.alloc()),
         has_yaml: false,
-    };
+    }
+}
+
+/// The words of a call by what they name. Where folders are to be entered, what is found there stands in place of the folder. Standard error says
+/// which files are of YAML. The error is that of a folder that can't be listed, or says that memory is lacking.
+pub fn sorted_words<'w>(rt: &HostRuntime, call: &Call<'w>) -> io::Result<Sorted<'w>> {
+    let mut sorted = nothing(rt);
     for pattern in call.patterns.as_slice() {
         sorted.files.push(Source::of(rt, asked_pattern(pattern))?)?;
     }

@@ -5,7 +5,7 @@ use crate::crons::announce_other_cron;
 use crate::lines::{tell_line, tell_pattern};
 use crate::machine::Machine;
 use crate::planning::plan;
-use crate::sorted::{Sorted, asked_of, sorted_words};
+use crate::sorted::{Sorted, asked_of, sorted_files, sorted_words};
 use croncheck_command::problem::Problem;
 use croncheck_command::words::{Call, Format, Verb, version};
 use croncheck_files::names::{Asked, STANDARD_INPUT};
@@ -29,27 +29,37 @@ use std::io::BufWriter;
 /// The status where nothing was read.
 const UNREAD: u8 = 3;
 
-/// Tells of the crontabs of the machine that is checked, or of what the words name, and answers the status of the call. The error says why
-/// there is no answer.
-pub fn tell_of_machine(
+/// What a call names: the crontabs of the machine that is checked, or what its words name. Standard error says what of that isn't read. The error
+/// says why there is no answer.
+pub fn sorted_on<'w>(
     rt: &HostRuntime,
-    call: &Call<'_>,
-    kinds: &TermsByKind<'_, '_>,
+    call: &Call<'w>,
     machine: &Machine<'_>,
-) -> Result<u8, Problem> {
-    if let Some(folder) = call.root {
-        let Ok(()) = announce_other_cron(rt, folder) else {
-            return Err(Problem::OutOfMemory);
-        };
-        let files = machine.crontabs().map_err(Problem::Root)?;
-        return tell(rt, call, kinds, machine, files.as_slice());
+) -> Result<Sorted<'w>, Problem> {
+    match call.root {
+        Some(folder) => crontabs_of(rt, folder, machine),
+        None => sorted_words(rt, call).map_err(Problem::Folder),
     }
-    let sorted = sorted_words(rt, call).map_err(Problem::Folder)?;
-    tell_sorted(rt, call, kinds, machine, &sorted)
 }
 
-// Tells of what the words name.
-fn tell_sorted(
+// The crontabs of the machine that is checked, whose files stand below a folder.
+fn crontabs_of<'w>(
+    rt: &HostRuntime,
+    folder: &str,
+    machine: &Machine<'_>,
+) -> Result<Sorted<'w>, Problem> {
+    let Ok(()) = announce_other_cron(rt, folder) else {
+        return Err(Problem::OutOfMemory);
+    };
+    let files = machine.crontabs().map_err(Problem::Root)?;
+    match sorted_files(rt, files.as_slice()) {
+        Ok(sorted) => Ok(sorted),
+        Err(_) => Err(Problem::OutOfMemory),
+    }
+}
+
+/// Tells of what a call names, and answers the status of the call. The error says why there is no answer.
+pub fn tell_sorted(
     rt: &HostRuntime,
     call: &Call<'_>,
     kinds: &TermsByKind<'_, '_>,
