@@ -7,7 +7,7 @@ from math import inf
 from operator import index
 
 from . import _library as lib
-from ._zones import FIRST_OF_DATES, NEVER, checked_start, shown, zone_of
+from ._zones import FIRST_OF_DATES, NEVER, check_start, shown, zone_of
 
 EPOCH = datetime(1970, 1, 1, tzinfo=timezone.utc)
 SECONDS_PER_DAY = 86_400
@@ -67,7 +67,9 @@ def clock_of(zone, time, second):
     """The clock for a search from a time, at a second, which shows what the time's zone shows there."""
     clock = zone.clock_at(second)
     if not zone.is_fixed:
-        checked_start(time, second, clock)
+        ahead, _ = clock.part_at(second)
+        if time.utcoffset() != ahead:
+            check_start(time, second, ahead)
     return clock
 
 
@@ -90,14 +92,21 @@ def is_left(status):
 
 def nearest(find, cron, start, zone, second, inclusive, is_forward):
     """The nearest run, by wider and wider clocks as long as it lies outside; None where none is left."""
-    clock, run = clock_of(zone, start, second), c_int64()
-    status = find(*cron._words(), clock.reference, second, inclusive, byref(run))
+    text, length, bits, clock, run, end = cron._text, cron._length, cron._bits, zone.clock_at(second), c_int64(), second
+    if not zone.is_fixed:
+        ahead, end = clock.part_at(second)
+        if start.utcoffset() != ahead:
+            check_start(start, second, ahead)
+    status = find(text, length, bits, clock.reference, second, inclusive, byref(run))
     if status == lib.OUTSIDE:
         for clock in zone.wider(second, is_forward):
-            status = find(*cron._words(), clock.reference, second, inclusive, byref(run))
+            status = find(text, length, bits, clock.reference, second, inclusive, byref(run))
             if status != lib.OUTSIDE:
                 break
-    return None if status and not is_left(status) else time_of(run.value, clock, start)
+    if status and not is_left(status):
+        return None
+    # (a run before the clock's next change is as far ahead as the start)
+    return shown(run.value, ahead, start.tzinfo) if second <= run.value < end else time_of(run.value, clock, start)
 
 
 def most_of(count):

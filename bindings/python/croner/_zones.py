@@ -16,7 +16,7 @@ NEAR_BLOCKS = (19, 22, 24, 26, 27, 28, 29, 30, 31, 34)
 DAYS_ABOUT = 200_000
 # The years in which each run is found, 1 to 4999, and some days.
 FIRST_SEARCHED, LAST_SEARCHED = -62135596800 - 200_000, 95617584000 + 200_000
-FIRST_OF_DATES, LAST_OF_DATES = -62135596800, 253402300799  # of Python's
+FIRST_OF_DATES, LAST_OF_DATES = -62135596800, 253402300799
 MOST_CLOCKS, MOST_ZONES = 200, 2_000
 EPOCH, NEVER = datetime(1970, 1, 1), 2**63 - 1
 
@@ -144,11 +144,10 @@ def shown(second, ahead, zone):
     return time
 
 
-def checked_start(time, second, clock):
-    """Raises ClockError where a time's zone shows another time at its second than a clock does."""
-    ahead = clock.part_at(second)[0]
-    # (a time that the clock skips has the offset from before the change; no clock goes on after LAST_SECOND)
-    if time.utcoffset() != ahead and second <= lib.LAST_SECOND:
+def check_start(time, second, ahead):
+    """Raises ClockError where a time's zone isn't so far ahead of UTC at its second, though the time itself may seem so: a time that the clock
+    skips is shown with the offset from before the change. No clock goes on after LAST_SECOND."""
+    if second <= lib.LAST_SECOND:
         shown(second, ahead, time.tzinfo)
 
 
