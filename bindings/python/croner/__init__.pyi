@@ -26,8 +26,8 @@ class CronError(ValueError):
     def __init__(self, message: str, pattern: str, begin: int, end: int, field: _Field | None) -> None: ...
 
 class ClockError(ValueError):
-    """A zone's clock changes in a way that the library doesn't follow, as that of Antarctica/Casey in 2010; or a `ZoneInfo` shows another time
-    at the start or at a run than the file of its key."""
+    """A zone's clock changes in a way that the library doesn't follow, as that of Antarctica/Casey in 2010; or a `ZoneInfo` differs at
+    the start or at a run from the file of its key."""
 
 class Cron:
     """A pattern of five, six or seven fields. It can't be changed. Two are equal where their texts and settings are.
