@@ -101,7 +101,9 @@ impl fmt::Display for CronError {
     fn fmt(&self, f: &mut fmt::Formatter<'_>) -> fmt::Result {
         match self {
             CronError::InvalidPattern(fault) => fault.fmt(f),
-            CronError::TimeSearchLimitExceeded => f.write_str("no run is left before year 5000, or none after year 1 on the way back"),
+            CronError::TimeSearchLimitExceeded => {
+                f.write_str("no run is left before year 5000, or none after year 1 on the way back")
+            }
             CronError::OutsideWindow => {
                 f.write_str("the start or the run lies outside the window of the clock's table")
             }
