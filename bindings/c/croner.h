@@ -39,7 +39,9 @@ enum {
   CRONER_OK = 0,
   /* The text is no pattern, or the line is none that cron accepts. */
   CRONER_REFUSED = 1,
-  /* No run is left in the years 1 to 4999, if the clock keeps its offset after its last change and before its first one. */
+  /* No run is left: forward none before the clock first shows year 5000, backward none after it last shows year 1. In year 5000, or
+   * year 1, some runs are found and others are missed. The clock is taken to keep its offset before its first change and after its
+   * last one. */
   CRONER_LIMIT = 2,
   /* malloc or realloc gave no memory. */
   CRONER_OUT_OF_MEMORY = 3,

@@ -50,6 +50,7 @@ static int64_t draw_from(int64_t first, int64_t last) { return first + (int64_t)
 #define DAY 86400
 
 static const croner_clock utc = {sizeof(croner_clock), YEAR_2000, YEAR_2100, NULL, 0, 0, 0};
+static const croner_clock all_years = {sizeof(croner_clock), CRONER_FIRST_SECOND, CRONER_LAST_SECOND, NULL, 0, 0, 0};
 
 struct zone {
   croner_change changes[400];
@@ -108,6 +109,11 @@ static void check_utc(void) {
   CHECK(previous("0 0 0 1 1 * 1990", &utc, 1720170000, 0, &run) == CRONER_OUTSIDE && run == 7, run);
   CHECK(next("* * * * *", &utc, YEAR_2000 - 1, 0, &run) == CRONER_OUTSIDE && run == 7, run);
   CHECK(next("* * * * *", &utc, YEAR_2100 + 1, 0, &run) == CRONER_OUTSIDE && run == 7, run);
+  check_next("59 59 23 31 12 * 4999", &all_years, 1720170000, 95617583999);
+  check_next("0 0 0 1 1 * 5000", &all_years, 1720170000, 95617584000);
+  CHECK(next("0 0 0 2 1 * 5000", &all_years, 1720170000, 0, &run) == CRONER_LIMIT && run == 7, run);
+  CHECK(previous("0 0 0 1 1 * 1", &all_years, 1720170000, 0, &run) == CRONER_LIMIT && run == 7, run);
+  CHECK(croner_matches("* * * * *", 9, 0, &all_years, CRONER_LAST_SECOND - 59, &is_match) == CRONER_OK && is_match == 0, is_match);
   CHECK(next("0 25 * * *", &utc, 1720170000, 0, &run) == CRONER_REFUSED && run == 7, run);
   CHECK(next("0 9 * * *\xff", &utc, 1720170000, 0, &run) == CRONER_REFUSED && run == 7, run);
   CHECK(croner_version() == CRONER_VERSION, croner_version());

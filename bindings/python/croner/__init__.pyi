@@ -26,12 +26,14 @@ class CronError(ValueError):
     def __init__(self, message: str, pattern: str, begin: int, end: int, field: _Field | None) -> None: ...
 
 class ClockError(ValueError):
-    """A zone's clock changes in a way that the library doesn't follow, as that of Antarctica/Casey in 2010."""
+    """A zone's clock changes in a way that the library doesn't follow, as that of Antarctica/Casey in 2010; or a `ZoneInfo` differs at
+    the start or at a run from the file of its key."""
 
 class Cron:
     """A pattern of five, six or seven fields. It can't be changed. Two are equal where their texts and settings are.
 
-    A `datetime` has to have a zone, which is a `zoneinfo.ZoneInfo` with a key or a `datetime.timezone`. A run is in the zone of the start.
+    A `datetime` has to have a zone, which is a `zoneinfo.ZoneInfo` with a key or a `datetime.timezone` of whole seconds. A naive one raises
+    ValueError, one of another zone TypeError. A run is in the zone of the start.
     """
 
     def __init__(
@@ -51,9 +53,9 @@ class Cron:
     @property
     def settings(self) -> _Settings: ...
     def next(self, start: datetime, *, inclusive: bool = False) -> datetime | None:
-        """The first run after `start`, or with `inclusive` at it; None where no run is left before year 5000."""
+        """The first run after `start`, or with `inclusive` at it; None where no run is left before year 5000. A run in year 5000 may be missed."""
     def previous(self, start: datetime, *, inclusive: bool = False) -> datetime | None:
-        """The last run before `start`, or with `inclusive` at it; None where there is none since year 2."""
+        """The last run before `start`, or with `inclusive` at it; None where there is none since year 2. A run in year 1 may be missed."""
     def runs(
         self,
         start: datetime,
@@ -63,11 +65,11 @@ class Cron:
         inclusive: bool = False,
     ) -> Iterator[datetime]:
         """The runs after `start`, or with `inclusive` from it on, in order: `count` of them, or those up to `until`, which may be one; else
-        all that are left."""
+        all that are left. A negative `count` raises ValueError."""
     def __iter__(self) -> Iterator[datetime]:
         """The runs from now on, in UTC."""
     def matches(self, time: datetime) -> bool:
-        """Whether the pattern names the second that the clock shows at `time`, which lies before year 9997."""
+        """Whether the pattern names the second that the clock shows at `time`. No pattern names one after year 5000."""
     def describe(self, language: _Language = "en") -> str:
         """croner's own description."""
     def summary(self, language: _Language = "en") -> str:
@@ -91,7 +93,7 @@ class CrontabLine:
 
     def __init__(self, text: str, *, system: bool = False) -> None:
         """Reads a line; with `system` one of the system's crontab, where a user comes before the command. Raises CronError where cron refuses
-        it. Bytes that are no UTF-8 are those that the error handler `surrogateescape` gives."""
+        it. Bytes that are no UTF-8 are those that the error handler `surrogateescape` gives; another surrogate is refused."""
     @property
     def text(self) -> str: ...
     @property

@@ -7,7 +7,7 @@ from math import inf
 from operator import index
 
 from . import _library as lib
-from ._zones import zone_of
+from ._zones import FIRST_OF_DATES, NEVER, check_start, shown, zone_of
 
 EPOCH = datetime(1970, 1, 1, tzinfo=timezone.utc)
 SECONDS_PER_DAY = 86_400
@@ -17,7 +17,6 @@ PRESENCE = ("optional", "required", "disallowed")
 DESCRIPTIONS = {"en": 0, "sv": 1}
 SUMMARIES = {"en": 2, "sv": 3}
 DAY_AND_WEEKDAY, QUARTZ_WEEKDAYS, SLOPPY_RANGES = 16, 32, 64
-NEVER = 2**63 - 1
 
 
 class CronError(ValueError):
@@ -60,8 +59,25 @@ def start_of(time):
     if not isinstance(time, datetime):
         raise TypeError(f"a time is a datetime with a zone, and not of {type(time).__name__}")
     zone = zone_of(time.tzinfo)
-    since = time - EPOCH
+    since = datetime.__sub__(time, EPOCH)  # also of a class with another difference
     return zone, since.days * SECONDS_PER_DAY + since.seconds, time.microsecond != 0
+
+
+def clock_of(zone, time, second):
+    """The clock for a search from a time, at a second, which shows what the time's zone shows there."""
+    clock = zone.clock_at(second)
+    if not zone.is_fixed:
+        ahead, _ = clock.part_at(second)
+        if time.utcoffset() != ahead:
+            check_start(time, second, ahead)
+    return clock
+
+
+def time_of(second, clock, start):
+    """The time at the second of a run, in the zone of the start."""
+    if type(start.tzinfo) is timezone and second >= FIRST_OF_DATES:
+        return datetime.fromtimestamp(second, start.tzinfo)
+    return shown(second, clock.part_at(second)[0], start.tzinfo)
 
 
 def until_of(until):
@@ -74,14 +90,23 @@ def is_left(status):
     return status == lib.OK or (status not in (lib.LIMIT, lib.OUTSIDE) and lib.fail(status))
 
 
-def by_wider(status, find, words, clocks):
-    """The status of a search, by further clocks where it is that the run lies outside."""
+def nearest(find, cron, start, zone, second, inclusive, is_forward):
+    """The nearest run, by wider and wider clocks as long as it lies outside; None where none is left."""
+    text, length, bits, clock, run, end = cron._text, cron._length, cron._bits, zone.clock_at(second), c_int64(), second
+    if not zone.is_fixed:
+        ahead, end = clock.part_at(second)
+        if start.utcoffset() != ahead:
+            check_start(start, second, ahead)
+    status = find(text, length, bits, clock.reference, second, inclusive, byref(run))
     if status == lib.OUTSIDE:
-        for clock in clocks:
-            status = find(*words[:3], clock.reference, *words[4:])
+        for clock in zone.wider(second, is_forward):
+            status = find(text, length, bits, clock.reference, second, inclusive, byref(run))
             if status != lib.OUTSIDE:
                 break
-    return status
+    if status and not is_left(status):
+        return None
+    # (a run before the clock's next change is as far ahead as the start)
+    return shown(run.value, ahead, start.tzinfo) if second <= run.value < end else time_of(run.value, clock, start)
 
 
 def most_of(count):
@@ -93,15 +118,15 @@ def most_of(count):
     return index(count)
 
 
-def listed(find, zone, second, inclusive, until, most, kind):
+def listed(find, zone, clock, second, inclusive, until, most, kind):
     """Lists in chunks: `find` is handed a clock, a second, whether it counts, the last second, an array and its length, and where to put
-    how many it has written there. Gives lists of these."""
+    how many it has written there. Gives clocks with lists of these."""
     count = c_size_t()
     while most > 0:
         room = min(CHUNK, most)
         chunk = (kind * room)()
         rest = second, inclusive, until, chunk, room, byref(count)
-        status = find(zone.clock_at(second).reference, *rest)
+        status = find(clock.reference, *rest)
         if status == lib.OUTSIDE and not count.value:
             for clock in zone.wider(second, True):
                 status = find(clock.reference, *rest)
@@ -109,18 +134,26 @@ def listed(find, zone, second, inclusive, until, most, kind):
                     break
         is_left(status)
         found = chunk[: count.value]
-        yield found
+        yield clock, found
         if not found or (len(found) < room and status != lib.OUTSIDE):
             return
         most -= len(found)
         second, inclusive = found[-1] if kind is c_int64 else found[-1].second, False
+        clock = zone.clock_at(second)
 
 
-def times_of(chunks, zone):
-    """The times of a zone at seconds, which come in lists."""
-    at = datetime.fromtimestamp
-    for seconds in chunks:
-        yield from map(at, seconds, repeat(zone))
+def times_of(chunks, start):
+    """The times of runs, which come in lists, in the zone of the start."""
+    zone, at = start.tzinfo, datetime.fromtimestamp
+    for clock, seconds in chunks:
+        if type(zone) is timezone and seconds and seconds[0] >= FIRST_OF_DATES:
+            yield from map(at, seconds, repeat(zone))
+            continue
+        end = None
+        for second in seconds:
+            if end is None or second >= end:
+                ahead, end = clock.part_at(second)
+            yield shown(second, ahead, zone)
 
 
 @total_ordering
@@ -172,27 +205,18 @@ class Cron:
     def next(self, start, *, inclusive=False):
         zone, second, has_fraction = start_of(start)
         # (a whole second that a fraction follows lies before the start)
-        inclusive, run = bool(inclusive) and not has_fraction, c_int64()
-        words = self._text, self._length, self._bits, zone.clock_at(second).reference, second, inclusive, byref(run)
-        status = lib.find_next(*words)
-        if status and not is_left(by_wider(status, lib.find_next, words, zone.wider(second, True))):
-            return None
-        return datetime.fromtimestamp(run.value, start.tzinfo)
+        return nearest(lib.find_next, self, start, zone, second, bool(inclusive) and not has_fraction, True)
 
     def previous(self, start, *, inclusive=False):
         zone, second, has_fraction = start_of(start)
         second = min(second, lib.LAST_SECOND)  # years after the last run
-        inclusive, run = bool(inclusive) or has_fraction, c_int64()
-        words = self._text, self._length, self._bits, zone.clock_at(second).reference, second, inclusive, byref(run)
-        status = lib.find_previous(*words)
-        if status and not is_left(by_wider(status, lib.find_previous, words, zone.wider(second, False))):
-            return None
-        return datetime.fromtimestamp(run.value, start.tzinfo)
+        return nearest(lib.find_previous, self, start, zone, second, bool(inclusive) or has_fraction, False)
 
     def runs(self, start, *, count=None, until=None, inclusive=False):
         zone, second, has_fraction = start_of(start)
         bounds = bool(inclusive) and not has_fraction, until_of(until), most_of(count)
-        return times_of(listed(self._find_runs, zone, second, *bounds, c_int64), start.tzinfo)
+        clock = clock_of(zone, start, second)
+        return times_of(listed(self._find_runs, zone, clock, second, *bounds, c_int64), start)
 
     def _find_runs(self, *words):
         return lib.find_runs(self._text, self._length, self._bits, *words)
@@ -202,10 +226,10 @@ class Cron:
 
     def matches(self, time):
         zone, second, _ = start_of(time)
+        if second > lib.LAST_SECOND:  # no pattern names a year after 5000
+            return False
         is_match = c_int32()
-        status = lib.matches(*self._words(), zone.clock_at(second).reference, second, byref(is_match))
-        if status == lib.OUTSIDE:
-            raise OverflowError("the time lies after year 9996")
+        status = lib.matches(*self._words(), clock_of(zone, time, second).reference, second, byref(is_match))
         return is_match.value == 1 if status == lib.OK else lib.fail(status)
 
     def describe(self, language="en"):

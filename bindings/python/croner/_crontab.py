@@ -4,7 +4,7 @@ from datetime import datetime
 from typing import NamedTuple
 
 from . import _library as lib
-from ._cron import CronError, listed, most_of, start_of, until_of
+from ._cron import CronError, clock_of, listed, most_of, start_of, time_of, until_of
 
 KINDS = ("blank", "comment", "setting", "job", "reboot", "never")
 # Why cron refuses a line: the field, and what is said.
@@ -40,7 +40,7 @@ class CrontabLine:
         self._text, self._system = text.removesuffix("\n"), bool(system)
         if "\n" in self._text:
             raise ValueError("a line has no line feed but its last character")
-        self._bytes = self._text.encode(errors="surrogateescape")
+        self._bytes = bytes_of(self._text)
         line = lib.Line(sizeof(lib.Line))
         status = lib.crontab_line(self._bytes, len(self._bytes), self._system, line)
         if status == lib.REFUSED:
@@ -83,8 +83,10 @@ class CrontabLine:
 
     def starts(self, start, *, count=None, until=None):
         zone, second, _ = start_of(start)
-        chunks = listed(self._find_starts, zone, second, False, until_of(until), most_of(count), lib.Start)
-        return starts_of(chunks if self._kind == "job" else (), start.tzinfo)
+        bounds = False, until_of(until), most_of(count), lib.Start
+        if self._kind != "job":
+            return iter(())
+        return starts_of(listed(self._find_starts, zone, clock_of(zone, start, second), second, *bounds), start)
 
     def _find_starts(self, clock, second, _, *rest):
         return lib.crontab_starts(self._bytes, len(self._bytes), self._system, clock, second, *rest)
@@ -108,11 +110,19 @@ class CrontabLine:
         return f"CrontabLine({self._text!r}{', system=True' if self._system else ''})"
 
 
-def starts_of(chunks, zone):
-    """The starts of a zone, which come in lists."""
-    for starts in chunks:
+def bytes_of(text):
+    """A line's bytes, some of which may be no UTF-8. A surrogate that stands for none of these is refused."""
+    try:
+        return text.encode(errors="surrogateescape")
+    except UnicodeEncodeError as error:
+        raise CronError("a line has a surrogate that stands for no byte", text, error.start, error.end, None) from None
+
+
+def starts_of(chunks, start):
+    """Cron's starts, which come in lists, in the zone of the time from which on they are listed."""
+    for clock, starts in chunks:
         for it in starts:
-            yield Start(datetime.fromtimestamp(it.second, zone), it.times)
+            yield Start(time_of(it.second, clock, start), it.times)
 
 
 def read_again(kind, text, system):

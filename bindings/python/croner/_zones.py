@@ -1,5 +1,6 @@
 """The clocks of datetimes' zones, as the library wants them."""
 import zoneinfo
+from bisect import bisect_right
 from ctypes import byref, c_int32, c_size_t, sizeof
 from datetime import datetime, timedelta, timezone
 from importlib import resources
@@ -13,14 +14,15 @@ BLOCK, WIDER_BLOCKS = 27, (31, 34)
 # Where the zone isn't calm there, a clock has the days about the start, and wider ones reach this far from it (six days at first).
 NEAR_BLOCKS = (19, 22, 24, 26, 27, 28, 29, 30, 31, 34)
 DAYS_ABOUT = 200_000
-# The years 1 to 4999, in which runs are searched, and some days.
+# The years in which each run is found, 1 to 4999, and some days.
 FIRST_SEARCHED, LAST_SEARCHED = -62135596800 - 200_000, 95617584000 + 200_000
+FIRST_OF_DATES, LAST_OF_DATES = -62135596800, 253402300799
 MOST_CLOCKS, MOST_ZONES = 200, 2_000
-EPOCH = datetime(1970, 1, 1)
+EPOCH, NEVER = datetime(1970, 1, 1), 2**63 - 1
 
 
 class ClockError(ValueError):
-    """A zone's clock changes in a way that the library doesn't follow."""
+    """A zone's clock changes in a way that the library doesn't follow, or isn't that of the file of its key."""
 
 
 class Clock:
@@ -30,10 +32,25 @@ class Clock:
         self.changes = changes  # which has to live as long
         self.clock = lib.Clock(sizeof(lib.Clock), first, last, changes, count, ahead)
         self.reference = byref(self.clock)
+        self.parts = None
+
+    def part_at(self, second):
+        """How far the clock is ahead of UTC at a second, and the second from which on that is no longer so."""
+        seconds, aheads = self.parts or self.new_parts()
+        place = bisect_right(seconds, second)
+        return aheads[place], seconds[place]
+
+    def new_parts(self):
+        changes = self.changes[: self.clock.count] if self.clock.count else ()
+        aheads = [timedelta(seconds=it) for it in (self.clock.ahead, *(it.ahead for it in changes))]
+        self.parts = [*(it.second for it in changes), NEVER], aheads
+        return self.parts
 
 
 class FixedZone:
     """A zone whose clock never changes."""
+
+    is_fixed = True
 
     def __init__(self, ahead):
         self.clock = Clock(lib.FIRST_SECOND, lib.LAST_SECOND, ahead, None, 0)
@@ -48,8 +65,10 @@ class FixedZone:
 class NamedZone:
     """A zone of a time zone file."""
 
-    def __init__(self, key):
-        self.key, self.data, self.clocks = key, bytes_of(key), {}
+    is_fixed = False
+
+    def __init__(self, key, data):
+        self.key, self.data, self.clocks = key, data, {}
 
     def clock_at(self, second):
         """The clock for a search from a second."""
@@ -75,9 +94,8 @@ class NamedZone:
 
     def wider_of_few(self, second, is_forward):
         """The same where the zone isn't calm so far away."""
-        for bits in NEAR_BLOCKS:
-            far = 1 << bits
-            wide = (second - DAYS_ABOUT, second + far) if is_forward else (second - far, second + DAYS_ABOUT)
+        for first, last in [(second - (1 << it), second + (1 << it)) for it in NEAR_BLOCKS] + [(FIRST_SEARCHED, LAST_SEARCHED)]:
+            wide = (second - DAYS_ABOUT, max(last, second)) if is_forward else (min(first, second), second + DAYS_ABOUT)
             yield self.clock_of(*wide) or self.refuse(second)
 
     def kept(self, name, clock):
@@ -102,11 +120,35 @@ class NamedZone:
             room = count.value
 
     def refuse(self, second):
-        date = (EPOCH + timedelta(seconds=second)).date()
-        raise ClockError(f"the clock of {self.key} isn't followed from {date}: it changes too often, or too far")
+        raise ClockError(f"the clock of {self.key} isn't followed from {date_of(second)}: it changes too often, or too far")
 
     def refuse_file(self):
         raise ClockError(f"the file of {self.key} is no time zone file")
+
+
+def date_of(second):
+    """The date of a second in UTC, for a message; the nearest one that a date can have."""
+    return (EPOCH + timedelta(seconds=min(max(second, FIRST_OF_DATES), LAST_OF_DATES))).date()
+
+
+def shown(second, ahead, zone):
+    """The time of a zone at a second, where its clock is so far ahead of UTC: its own, or a ClockError."""
+    try:
+        time = datetime.fromtimestamp(second, zone)
+    except (ValueError, OverflowError):  # UTC shows a year before 1 there
+        time = (EPOCH + (timedelta(seconds=second) + ahead)).replace(tzinfo=zone)
+    if time.utcoffset() != ahead:
+        raise ClockError(
+            f"the clock of this ZoneInfo isn't that of the file of its key, {zone.key}: they differ on {date_of(second)}"
+        )
+    return time
+
+
+def check_start(time, second, ahead):
+    """Raises ClockError where a time's zone isn't so far ahead of UTC at its second, though the time itself may seem so: a time that the clock
+    skips is shown with the offset from before the change. No clock goes on after LAST_SECOND."""
+    if second <= lib.LAST_SECOND:
+        shown(second, ahead, time.tzinfo)
 
 
 def window(bits, second):
@@ -122,12 +164,20 @@ def bytes_of(key):
         raise ValueError(f"{key!r} is no name of a time zone")
     for folder in zoneinfo.TZPATH:
         path = Path(folder, *parts)
-        if path.is_file():
+        if is_file(path):
             return checked(key, path.read_bytes())
     try:
         return checked(key, resources.files(".".join(["tzdata.zoneinfo", *parts[:-1]])).joinpath(parts[-1]).read_bytes())
     except (ImportError, OSError, UnicodeEncodeError):
         raise zoneinfo.ZoneInfoNotFoundError(f"no time zone file of {key}") from None
+
+
+def is_file(path):
+    """Whether a path leads to a file; not so where it is too long for one."""
+    try:
+        return path.is_file()
+    except OSError:
+        return False
 
 
 def checked(key, data):
@@ -143,8 +193,11 @@ def fixed_zone(offset):
 
 
 def named_zone(key):
-    """The zone of a name, whose file is read once."""
-    return NAMED.get(key) or NAMED.setdefault(key, NamedZone(key))
+    """The zone of a name, whose file is read for each object of that name. Those of the same file share their clocks."""
+    data = bytes_of(key)
+    if len(NAMED) >= MOST_ZONES:
+        NAMED.clear()
+    return NAMED.get((key, data)) or NAMED.setdefault((key, data), NamedZone(key, data))
 
 
 def new_zone(zone):

@@ -1,8 +1,10 @@
 """The calls of the package, each on its happy path, and its errors: python3 -m unittest, or pytest."""
 import copy
 import io
+import os
 import pickle
 import shutil
+import struct
 import subprocess
 import sys
 import tempfile
@@ -100,8 +102,48 @@ class Searches(unittest.TestCase):
                 self.assertEqual(Cron("0 0 * * *").previous(start), datetime(5000, 12, 31, tzinfo=zone))
                 self.assertIsNone(Cron("0 0 * * *").next(start))
                 self.assertEqual(list(Cron("0 0 * * *").runs(start)), [])
-            with self.assertRaises(OverflowError):
-                Cron("0 0 * * *").matches(start)
+                self.assertIs(Cron("0 0 * * *").matches(start), False)
+
+    def test_the_years_that_are_searched(self):
+        for zone in (UTC, PARIS, timezone(timedelta(hours=-7))):
+            start, end = datetime(2024, 3, 1, tzinfo=zone), datetime(5000, 1, 1, tzinfo=zone)
+            self.assertEqual(Cron("0 0 0 1 1 * 5000").next(start), end)
+            self.assertEqual(list(Cron("0 0 0 1 1 * 5000").runs(start)), [end])
+            self.assertIsNone(Cron("0 0 0 2 1 * 5000").next(start))
+            self.assertEqual(Cron("59 59 23 31 12 * 4999").next(start), datetime(4999, 12, 31, 23, 59, 59, tzinfo=zone))
+            self.assertTrue(Cron("0 0 0 2 1 * 5000").matches(datetime(5000, 1, 2, tzinfo=zone)))
+            self.assertEqual(Cron("0 0 0 1 1 * 2").previous(start), datetime(2, 1, 1, tzinfo=zone))
+            self.assertIsNone(Cron("0 0 0 1 1 * 1").previous(start))
+
+    def test_the_first_and_the_last_day_of_a_datetime(self):
+        """UTC shows the year 0 at the one, or 10000 at the other, in a zone that is far enough from it."""
+        job, line = Cron("* * * * *"), CrontabLine("* * * * * x")
+        for zone in (UTC, PARIS, ZoneInfo("Asia/Tokyo"), *(timezone(timedelta(hours=it)) for it in (-14, 14, 23))):
+            first, last = datetime(1, 1, 1, tzinfo=zone), datetime(9999, 12, 31, 23, 59, tzinfo=zone)
+            runs = [first.replace(minute=it) for it in (1, 2, 3)]
+            self.assertEqual([it.isoformat() for it in job.runs(first, count=3)], [it.isoformat() for it in runs])
+            self.assertEqual(job.next(first).isoformat(), runs[0].isoformat())
+            self.assertEqual(job.next(first, inclusive=True).isoformat(), first.isoformat())
+            self.assertEqual([it.time.isoformat() for it in line.starts(first, count=3)], [it.isoformat() for it in runs])
+            self.assertEqual(list(job.runs(first, until=runs[1])), runs[:2])
+            self.assertIsNone(job.previous(first))
+            self.assertTrue(job.matches(first))
+            self.assertIsNone(job.next(last))
+            self.assertEqual(job.previous(last), datetime(5000, 12, 31, 23, 59, tzinfo=zone))
+            self.assertEqual(list(job.runs(last)), [])
+            self.assertEqual(list(line.starts(last)), [])
+            self.assertIs(job.matches(last), False)
+            self.assertEqual(next(job.runs(datetime(2024, 1, 1, tzinfo=UTC), until=last)), datetime(2024, 1, 1, 0, 1, tzinfo=UTC))
+
+    def test_times_of_other_classes(self):
+        class Moment(datetime):
+            def __sub__(self, _):
+                return timedelta(0)
+
+        job, run = Cron("0 9 * * *"), datetime(2024, 7, 8, 9, tzinfo=UTC)
+        start = Moment(2024, 7, 8, tzinfo=UTC)
+        self.assertEqual((job.next(start), type(job.next(start))), (run, datetime))
+        self.assertEqual(job.previous(Moment(2024, 7, 8, 10, tzinfo=UTC)), run)
 
     def test_runs(self):
         job, start = Cron("*/7 * * * *"), datetime(2024, 10, 26, tzinfo=PARIS)
@@ -151,6 +193,14 @@ class Zones(unittest.TestCase):
         self.assertEqual(job.previous(second).utcoffset(), timedelta(hours=1))
         self.assertEqual(Cron("30 2 * * *").next(first).day, 28)
 
+    def test_a_start_that_the_clock_skips(self):
+        job = Cron("* * * * *")
+        for fold, run in ((0, "2024-03-31T03:31:00+02:00"), (1, "2024-03-31T01:31:00+01:00")):
+            start = datetime(2024, 3, 31, 2, 30, tzinfo=PARIS, fold=fold)
+            self.assertEqual(job.next(start).isoformat(), run)
+            self.assertEqual(shown(job.runs(start, count=1)), [run])
+            self.assertTrue(job.matches(start))
+
     def test_fixed_offsets(self):
         for minutes in (0, 330, -570, 24 * 60 - 1, 1 - 24 * 60):
             zone = timezone(timedelta(minutes=minutes))
@@ -177,9 +227,58 @@ class Zones(unittest.TestCase):
         job = Cron("0 9 * * *")
         with self.assertRaisesRegex(TypeError, "key"):
             job.next(datetime(2024, 7, 6, tzinfo=ZoneInfo.from_file(io.BytesIO(data))))
-        for key in ("/etc/passwd", "../../etc/passwd", "", ".", "Europe/Nowhere", "Europe", "a\0b", "\udc80"):
+        for key in ("/etc/passwd", "../../etc/passwd", "", ".", "Europe/Nowhere", "Europe", "a\0b", "\udc80", "\ud800", "a" * 300):
             with self.assertRaises((ValueError, KeyError), msg=repr(key)):
                 job.next(datetime(2024, 7, 6, tzinfo=ZoneInfo.from_file(io.BytesIO(data), key=key)))
+
+    def test_a_zone_of_another_file_than_its_key(self):
+        def file_of(name):
+            return next(it for it in (Path(it, name) for it in zoneinfo.TZPATH) if it.is_file()).read_bytes()
+
+        def zone_of(data):
+            return ZoneInfo.from_file(io.BytesIO(data), key="Europe/Paris")
+
+        job, line = Cron("0 9 1 * *"), CrontabLine("0 9 1 * * x")
+        self.assertEqual(job.next(datetime(2024, 7, 6, tzinfo=zone_of(file_of("Europe/Paris")))), datetime(2024, 8, 1, 9, tzinfo=PARIS))
+        other = datetime(2024, 7, 6, tzinfo=zone_of(file_of("America/New_York")))
+        for find in (job.next, job.previous, job.matches, lambda it: list(job.runs(it, count=1)), lambda it: list(line.starts(it, count=1))):
+            with self.assertRaisesRegex(ClockError, "Europe/Paris.* 2024-07-06"):
+                find(other)
+        # As far ahead as Paris in winter, and not in summer: a file of one offset.
+        winter = b"TZif" + bytes(16) + struct.pack(">6l", 0, 0, 0, 0, 1, 4) + struct.pack(">lbb", 3600, 0, 0) + b"CET\0"
+        start = datetime(2024, 1, 6, tzinfo=zone_of(winter))
+        for find in (job.runs, line.starts):
+            found = []
+            with self.assertRaisesRegex(ClockError, "2024-04-01"):
+                for it in find(start, count=5):
+                    found.append(it)
+            self.assertEqual(len(found), 2)
+        self.assertEqual(job.next(start).month, 2)
+        with self.assertRaises(ClockError):
+            Cron("0 9 1 7 *").next(start)
+        with self.assertRaises(ClockError):
+            Cron("0 9 1 7 *").previous(start)
+
+    def test_a_file_that_is_changed(self):
+        paths = zoneinfo.TZPATH
+        paris, india = (next(it for it in (Path(it, name) for it in paths) if it.is_file()) for name in ("Europe/Paris", "Asia/Kolkata"))
+        with tempfile.TemporaryDirectory() as room:
+            zoneinfo.reset_tzpath([room])
+            try:
+                Path(room, "Changed").write_bytes(paris.read_bytes())
+                start, job = datetime(2024, 7, 6, tzinfo=ZoneInfo("Changed")), Cron("0 9 * * *")
+                self.assertEqual(job.next(start).isoformat(), "2024-07-06T09:00:00+02:00")
+                Path(room, "Changed").write_bytes(india.read_bytes())
+                self.assertEqual(job.next(start).isoformat(), "2024-07-06T09:00:00+02:00")
+                ZoneInfo.clear_cache()
+                self.assertEqual(job.next(start.replace(tzinfo=ZoneInfo("Changed"))).isoformat(), "2024-07-06T09:00:00+05:30")
+                old = ZoneInfo.no_cache("Changed")
+                Path(room, "Changed").write_bytes(paris.read_bytes())
+                with self.assertRaises(ClockError):
+                    job.next(start.replace(tzinfo=old))
+            finally:
+                zoneinfo.reset_tzpath(paths)
+                ZoneInfo.clear_cache()
 
     def test_where_files_are_looked_for(self):
         paths = zoneinfo.TZPATH
@@ -223,6 +322,27 @@ class Zones(unittest.TestCase):
             self.assertEqual(Cron("0 9 1 8 *").next(start), start.replace(month=8, day=1, hour=9))
         with self.assertRaises(ClockError):
             list(job.runs(datetime(2007, 7, 6, tzinfo=casey), count=2_000))
+
+
+    def test_far_away_on_a_clock_that_is_not_followed_nearby(self):
+        count = 0
+        for name in ("Antarctica/Casey", "Antarctica/Vostok", "Antarctica/Rothera"):
+            try:
+                zone = ZoneInfo(name)
+            except zoneinfo.ZoneInfoNotFoundError:
+                continue
+            for year in range(1940, 2040):
+                start = datetime(year, 7, 1, tzinfo=zone)
+                for find, run in (
+                    (Cron("0 0 0 1 6 * 4900").next, datetime(4900, 6, 1, tzinfo=zone)),
+                    (Cron("0 0 0 1 6 * 30").previous, datetime(30, 6, 1, tzinfo=zone)),
+                ):
+                    try:
+                        self.assertEqual(find(start), run, start)
+                        count += 1
+                    except ClockError:
+                        pass
+        self.assertGreater(count, 50)
 
 
 class Patterns(unittest.TestCase):
@@ -324,9 +444,14 @@ class Lines(unittest.TestCase):
             error = caught.exception
             self.assertEqual(error.field, field)
             self.assertIn(text[error.begin : error.end], fault)
-        for text in ("a\nb", 5):
+        for text in ("a\nb", 5, b"0 9 * * 1 x"):
             with self.assertRaises((ValueError, TypeError)):
                 CrontabLine(text)
+        for text, fault in [("0 9 * * 1 \ud800", "\ud800"), ("é9 \udbff* * * 1 x\n", "\udbff"), ("0 9 * * 1 \0", "\0"), ("0 é9 * * 1 x", "é9")]:
+            with self.assertRaises(CronError) as caught:
+                CrontabLine(text)
+            error = caught.exception
+            self.assertEqual(error.pattern[error.begin : error.end], fault)
 
     def test_starts(self):
         start = datetime(2027, 3, 28, tzinfo=PARIS)
@@ -360,6 +485,15 @@ class Threads(unittest.TestCase):
             it.join()
         for number in range(12):
             self.assertEqual(together[number], [alone[number]] * 10)
+
+
+    def test_a_fork(self):
+        job, start = Cron("0 9 * * *"), datetime(2024, 7, 6, tzinfo=PARIS)
+        run = job.next(start)
+        child = os.fork()
+        if child == 0:
+            os._exit(job.next(start) != run)
+        self.assertEqual(os.waitpid(child, 0)[1], 0)
 
 
 class Opening(unittest.TestCase):

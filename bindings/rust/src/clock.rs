@@ -10,6 +10,8 @@ use std::time::{Duration, SystemTime, UNIX_EPOCH};
 
 const FOLDERS: [&str; 2] = ["/usr/share/zoneinfo", "/etc/zoneinfo"];
 const SECONDS_PER_DAY: i64 = 86_400;
+const MOST_FILE_BYTES: usize = 1_000_000;
+const MOST_RULE_BYTES: usize = 1_000;
 
 /// The clock of a zone in a window, as a table of its changes. A search whose start or run lies outside the window is
 /// refused. Each call reads the table, so a window of some years is faster than one of centuries.
@@ -76,6 +78,9 @@ impl ClockTable {
 
     /// The clock of a time zone file (TZif), from a first second to a last one.
     pub fn of_tzif(bytes: &[u8], first: i64, last: i64) -> Result<ClockTable, CronError> {
+        if bytes.len() > MOST_FILE_BYTES {
+            return Err(CronError::InvalidZone);
+        }
         // SAFETY: the pointer and the length are of bytes that live through the call; the others are `listed`'s.
         listed(first, last, |changes, room, ahead, count| unsafe {
             raw::croner_clock_of_tzif(bytes.as_ptr(), bytes.len(), first, last, changes, room, ahead, count)
@@ -84,6 +89,9 @@ impl ClockTable {
 
     /// The clock of a POSIX rule, such as `CET-1CEST,M3.5.0,M10.5.0/3`, from a first second to a last one.
     pub fn of_posix(rule: &str, first: i64, last: i64) -> Result<ClockTable, CronError> {
+        if rule.len() > MOST_RULE_BYTES {
+            return Err(CronError::InvalidZone);
+        }
         // SAFETY: as in `of_tzif`.
         listed(first, last, |changes, room, ahead, count| unsafe {
             raw::croner_clock_of_posix(
@@ -257,11 +265,13 @@ fn date_of(day: i64) -> (i64, u32, u32) {
 impl fmt::Display for TableTime<'_> {
     fn fmt(&self, f: &mut fmt::Formatter<'_>) -> fmt::Result {
         let (year, month, day, hour, minute, second) = self.civil();
+        let before = if year < 0 { "-" } else { "" };
+        let year = year.abs();
         let sign = if self.offset() < 0 { '-' } else { '+' };
         let ahead = self.offset().unsigned_abs();
         write!(
             f,
-            "{year:04}-{month:02}-{day:02}T{hour:02}:{minute:02}:{second:02}{sign}{:02}:{:02}",
+            "{before}{year:04}-{month:02}-{day:02}T{hour:02}:{minute:02}:{second:02}{sign}{:02}:{:02}",
             ahead / 3600,
             ahead / 60 % 60
         )?;

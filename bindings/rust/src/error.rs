@@ -83,7 +83,7 @@ impl fmt::Display for PatternFault {
 pub enum CronError {
     /// The text is no pattern.
     InvalidPattern(PatternFault),
-    /// No run is left in the years 1 to 4999.
+    /// No run is left before year 5000, or on the way back none after year 1. In these two years some runs are found and others are missed.
     TimeSearchLimitExceeded,
     /// The start or the run lies outside the window of the clock's table.
     OutsideWindow,
@@ -101,7 +101,9 @@ impl fmt::Display for CronError {
     fn fmt(&self, f: &mut fmt::Formatter<'_>) -> fmt::Result {
         match self {
             CronError::InvalidPattern(fault) => fault.fmt(f),
-            CronError::TimeSearchLimitExceeded => f.write_str("no run is left in the years 1 to 4999"),
+            CronError::TimeSearchLimitExceeded => {
+                f.write_str("no run is left before year 5000, or none after year 1 on the way back")
+            }
             CronError::OutsideWindow => {
                 f.write_str("the start or the run lies outside the window of the clock's table")
             }

@@ -214,6 +214,56 @@ fn clocks() {
         (-2, Some(UNIX_EPOCH - Duration::from_secs(2)))
     );
     assert!(TableTime::now(&india).unwrap().second() > 1_700_000_000);
+    let rule = format!("UTC0{}", " ".repeat(1_000));
+    assert_eq!(ClockTable::of_posix(&rule, 0, 1), Err(CronError::InvalidZone));
+    let file = vec![0; 1_000_001];
+    assert_eq!(ClockTable::of_tzif(&file, 0, 1), Err(CronError::InvalidZone));
+    let utc = ClockTable::utc();
+    for (second, wanted) in [
+        (-62_135_596_801, "0000-12-31T23:59:59+00:00"),
+        (-62_167_219_201, "-0001-12-31T23:59:59+00:00"),
+        (-377_610_508_800, "-9996-01-01T00:00:00+00:00"),
+        (253_307_692_799, "9996-12-31T23:59:59+00:00"),
+    ] {
+        assert_eq!(TableTime::new(&utc, second).unwrap().to_string(), wanted);
+    }
+}
+
+#[test]
+fn the_years_that_are_searched() {
+    let utc = ClockTable::utc();
+    let start = TableTime::new(&utc, 1_700_000_000).unwrap();
+    let none = Err(CronError::TimeSearchLimitExceeded);
+    let next = |text| cron(text).find_next_occurrence(&start, false).map(|it| it.to_string());
+    let previous = |text| {
+        cron(text)
+            .find_previous_occurrence(&start, false)
+            .map(|it| it.to_string())
+    };
+    assert_eq!(next("0 0 0 31 12 * 4999"), Ok("4999-12-31T00:00:00+00:00".to_owned()));
+    assert_eq!(next("0 0 0 1 1 * 5000"), Ok("5000-01-01T00:00:00+00:00".to_owned()));
+    assert_eq!(next("0 0 0 2 1 * 5000"), none);
+    assert_eq!(previous("0 0 0 1 1 * 2"), Ok("0002-01-01T00:00:00+00:00".to_owned()));
+    assert_eq!(previous("0 0 0 1 1 * 1"), none);
+    assert!(none.unwrap_err().to_string().contains("before year 5000"));
+}
+
+#[test]
+fn a_fault_is_a_piece_of_its_text() {
+    for text in [
+        "ä 9 * * *",
+        "0 9 ää, * *",
+        "0 9 * * MÖN",
+        "\u{2009}0 9 * * €",
+        "60é 9 * * *",
+        "\0",
+        "0 9 * * *\0",
+    ] {
+        match text.parse::<Cron>() {
+            Err(CronError::InvalidPattern(fault)) => assert!(text.get(fault.begin..fault.end).is_some(), "{text:?}"),
+            other => panic!("{text:?}: {other:?}"),
+        }
+    }
 }
 
 #[test]

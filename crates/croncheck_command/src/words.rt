@@ -32,7 +32,7 @@ pub const USAGE: &str =
     "usage: croncheck [COMMAND] [OPTIONS] [FILE|PATTERN]... (croncheck --help lists the commands)";
 
 /// What `--version` tells after the program's name: this project's version, the crate whose patterns it reads, and the licence.
-const VERSION: &str = "0.4.1, patterns of croner 4.0.3
+const VERSION: &str = "0.5.0, patterns of croner 4.0.3
 MIT licence, in the file LICENSE";
 
 /// The version of this program.

@@ -39,7 +39,7 @@ pub const RULES: [Rule; 57] = [
     },
     Rule {
         name: "user",
-        text: "No user's name stands where one has to, or one stands where none may.",
+        text: "A user is missing where one has to be named, or named where none may be.",
     },
     Rule {
         name: "unknown-user",
@@ -111,7 +111,7 @@ pub const RULES: [Rule; 57] = [
     },
     Rule {
         name: "step-beyond",
-        text: "The step leads past the end of the range, so its first value alone is named.",
+        text: "The step leads past the end of the range, so only its first value is named.",
     },
     Rule {
         name: "range-down",
@@ -159,7 +159,7 @@ pub const RULES: [Rule; 57] = [
     },
     Rule {
         name: "control-byte",
-        text: "A byte or a character that nobody sees stands in the line.",
+        text: "The line has an invisible byte or character.",
     },
     Rule {
         name: "carriage-return",
@@ -227,14 +227,14 @@ pub const RULES: [Rule; 57] = [
     },
     Rule {
         name: "modifier",
-        text: "Cron knows no modifier.",
+        text: "The field has a modifier, as in `L`, `15W` or `5#2`. Cron has none.",
     },
     Rule {
         name: "capital-nickname",
-        text: "Cron knows nicknames in small letters alone.",
+        text: "Cron knows a nickname only in small letters.",
     },
     Rule {
         name: "seconds",
-        text: "The line has a field of seconds, which cron has not.",
+        text: "The line begins with a field of seconds. Cron has no such field.",
     },
 ];
