@@ -1,6 +1,6 @@
 //! The files of the machine, and its standard input.
 
-use crate::meant::{is_line, is_there};
+use crate::meant::is_line;
 use crate::regular::bytes_of;
 use crate::sorted::{Texts, texts_of};
 use croncheck_command::words::Call;
@@ -94,20 +94,25 @@ impl<'r> Machine<'r> {
     /// Whether a file is told of what a call names: one that is there, or one in a folder. Standard input, a line and a pattern are none. The only
     /// error is lack of memory.
     pub fn has_file(&self, named: Asked<'_>) -> Result<bool, AllocError> {
-        if named.word == STANDARD_INPUT || self.is_text(named.word) {
+        if named.word == STANDARD_INPUT || self.has_patterns() {
             return Ok(false);
         }
-        match sort_of(self.is_folder(named.word), &named) {
+        // A word that isn't there is a line, or a file that can't be read.
+        if !self.is_there(named.word)? {
+            return Ok(false);
+        }
+        match sort_of(self.leads_to_folder(named.word)?, &named) {
             Sort::NoCrontab => Ok(false),
             Sort::Folder => self.has_file_in(named),
-            Sort::File => Ok(is_there(self.rt, named.word)),
+            Sort::File => Ok(true),
         }
     }
 
     // Whether a file in a folder is told.
     fn has_file_in(&self, folder: Asked<'_>) -> Result<bool, AllocError> {
-        let Ok(names) = self.names(folder.word) else {
-            return Ok(false);
+        let names = match self.names(folder.word) {
+            Ok(names) => names,
+            Err(error) => return no_unless_lacking(&error),
         };
         for name in names.as_slice() {
             if self.is_told(folder, name.as_str())? {
@@ -115,6 +120,30 @@ impl<'r> Machine<'r> {
             }
         }
         Ok(false)
+    }
+
+    // Whether the words of the call are patterns.
+    fn has_patterns(&self) -> bool {
+        match texts_of(self.call) {
+            Texts::Patterns => true,
+            Texts::Lines | Texts::None => false,
+        }
+    }
+
+    // Whether something has this name, if only a link.
+    fn is_there(&self, name: &str) -> Result<bool, AllocError> {
+        match fs::symlink_metadata(self.rt, name) {
+            Ok(_) => Ok(true),
+            Err(error) => no_unless_lacking(&error),
+        }
+    }
+
+    // Whether a name is that of a folder, or of a link to one.
+    fn leads_to_folder(&self, name: &str) -> Result<bool, AllocError> {
+        match fs::metadata(self.rt, name) {
+            Ok(found) => Ok(found.is_dir()),
+            Err(error) => no_unless_lacking(&error),
+        }
     }
 
     // Whether the file of this name in a folder is told.
@@ -125,7 +154,7 @@ impl<'r> Machine<'r> {
             name: path.as_str(),
             kind: folder.kind,
         };
-        match treatment_of(self.is_folder(file.word), &file, name) {
+        match treatment_of(self.leads_to_folder(file.word)?, &file, name) {
             Treatment::PassedOver | Treatment::Read => Ok(true),
             Treatment::Silent | Treatment::NotEntered | Treatment::NoCrontab => Ok(false),
         }
@@ -239,6 +268,14 @@ impl Sources for Machine<'_> {
             names.push(String::from_str(self.rt.alloc(), entry.file_name())?)?;
         }
         Ok(names)
+    }
+}
+
+// What an error of the file system says of what was looked for: that it isn't there, unless memory is lacking.
+fn no_unless_lacking(error: &io::Error) -> Result<bool, AllocError> {
+    match error.kind() {
+        ErrorKind::OutOfMemory => Err(AllocError),
+        _ => Ok(false),
     }
 }
 
