@@ -115,7 +115,7 @@ def bytes_of(text):
     try:
         return text.encode(errors="surrogateescape")
     except UnicodeEncodeError as error:
-        raise CronError("a line has a surrogate that stands for no byte", text, error.start, error.end, None) from None
+        raise CronError("a line has a surrogate that is no byte of a file", text, error.start, error.end, None) from None
 
 
 def starts_of(chunks, start):
